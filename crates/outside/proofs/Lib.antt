@@ -1,0 +1,3 @@
+pub mod Under
+pub mod Appending
+pub mod Decimals

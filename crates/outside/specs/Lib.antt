@@ -1,0 +1,11 @@
+pub mod Causes
+pub mod Streams
+pub mod Files
+pub mod Calls
+pub mod Faults
+pub mod Bytes
+pub mod MemFiles
+pub mod MemSource
+pub mod MemSink
+pub mod Hosts
+pub mod Numerals
