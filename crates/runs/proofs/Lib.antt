@@ -1,0 +1,4 @@
+pub mod Walking
+pub mod Follow
+pub mod Runs
+pub mod Carried

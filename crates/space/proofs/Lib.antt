@@ -1,0 +1,4 @@
+pub mod Lookup
+pub mod Written
+pub mod Addresses
+pub mod Changes
