@@ -1,0 +1,3 @@
+pub mod LocationSets
+pub mod ReadWords
+pub mod Readings

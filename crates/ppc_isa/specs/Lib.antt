@@ -1,0 +1,9 @@
+pub mod Instruction
+pub mod Word
+pub mod Legal
+pub mod Reading
+pub mod Names
+pub mod Locations
+pub mod Map
+pub mod Effect
+pub mod Rows

@@ -1,0 +1,131 @@
+-- The instruction that the opcodes of a word name, with the word's bits in its fields. It is the word's own only if the word
+-- has no further bits and the form is legal. Public clauses do not cite this.
+use Rattle.std.specs.Prelude.{ℕ, ◌+◌, ◌*◌, ◌/◌, ◌%◌, ◌^◌, ◌==◌, if◌then◌else◌, Bool, Option, Some, None}
+use Rattle.ppc_isa.specs.Instruction.{Instr, Immediate, LogicImmediate, Load, Store, LoadUpdate, StoreUpdate, Multiple, TrapImmediate, CompareImmediate, Rotate, Branch, BranchConditional, SystemCall, Arithmetic, ArithmeticUnary, Logic, ShiftImmediate, LogicUnary, Compare, Trap, MoveFromCr, MoveToCr, MoveFromSpr, MoveToSpr, Sync, LoadIndexed, StoreIndexed, LoadIndexedUpdate, StoreIndexedUpdate, MoveCrField, CrLogic, Isync, BranchRegister, Addi, Addis, Addic, AddicRecord, Subfic, Mulli, Ori, Oris, Xori, Xoris, Andi, Andis, Lwz, Lbz, Lhz, Lha, Stw, Stb, Sth, Lwzu, Lbzu, Lhzu, Lhau, Stwu, Stbu, Sthu, Lmw, Stmw, Cmpi, Cmpli, Rlwinm, Rlwnm, Rlwimi, Add, Addc, Adde, Subf, Subfc, Subfe, Mullw, Mulhw, Mulhwu, Divw, Divwu, Addze, Addme, Subfze, Subfme, Neg, And, Or, Xor, Nand, Nor, Eqv, Andc, Orc, Slw, Srw, Sraw, Cntlzw, Extsb, Extsh, Cmp, Cmpl, Lwzx, Lbzx, Lhzx, Lhax, Lwbrx, Lhbrx, Stwx, Stbx, Sthx, Stwbrx, Sthbrx, Lwzux, Lbzux, Lhzux, Lhaux, Stwux, Stbux, Sthux, Crand, Cror, Crxor, Crnand, Crnor, Creqv, Crandc, Crorc, Bclr, Bcctr}
+
+-- `len` bits of w, with `below` bits behind them
+abbrev pub cut : ℕ → ℕ → ℕ → ℕ
+cut w below len = w / 2 ^ below % 2 ^ len
+
+abbrev pub is_one : ℕ → Bool
+is_one n = n == 1
+
+unfoldable pub read_31 : ℕ → Option Instr
+read_31 w =
+    if cut w 1 10 == 0 then Some (Compare Cmp (cut w 23 3) (cut w 16 5) (cut w 11 5))
+    else if cut w 1 10 == 4 then Some (Trap (cut w 21 5) (cut w 16 5) (cut w 11 5))
+    else if cut w 1 10 == 8 then Some (Arithmetic Subfc (cut w 21 5) (cut w 16 5) (cut w 11 5) (is_one (cut w 0 1)))
+    else if cut w 1 10 == 10 then Some (Arithmetic Addc (cut w 21 5) (cut w 16 5) (cut w 11 5) (is_one (cut w 0 1)))
+    else if cut w 1 10 == 11 then Some (Arithmetic Mulhwu (cut w 21 5) (cut w 16 5) (cut w 11 5) (is_one (cut w 0 1)))
+    else if cut w 1 10 == 19 then Some (MoveFromCr (cut w 21 5))
+    else if cut w 1 10 == 23 then Some (LoadIndexed Lwzx (cut w 21 5) (cut w 16 5) (cut w 11 5))
+    else if cut w 1 10 == 24 then Some (Logic Slw (cut w 21 5) (cut w 16 5) (cut w 11 5) (is_one (cut w 0 1)))
+    else if cut w 1 10 == 26 then Some (LogicUnary Cntlzw (cut w 21 5) (cut w 16 5) (is_one (cut w 0 1)))
+    else if cut w 1 10 == 28 then Some (Logic And (cut w 21 5) (cut w 16 5) (cut w 11 5) (is_one (cut w 0 1)))
+    else if cut w 1 10 == 32 then Some (Compare Cmpl (cut w 23 3) (cut w 16 5) (cut w 11 5))
+    else if cut w 1 10 == 40 then Some (Arithmetic Subf (cut w 21 5) (cut w 16 5) (cut w 11 5) (is_one (cut w 0 1)))
+    else if cut w 1 10 == 55 then Some (LoadIndexedUpdate Lwzux (cut w 21 5) (cut w 16 5) (cut w 11 5))
+    else if cut w 1 10 == 60 then Some (Logic Andc (cut w 21 5) (cut w 16 5) (cut w 11 5) (is_one (cut w 0 1)))
+    else if cut w 1 10 == 75 then Some (Arithmetic Mulhw (cut w 21 5) (cut w 16 5) (cut w 11 5) (is_one (cut w 0 1)))
+    else if cut w 1 10 == 87 then Some (LoadIndexed Lbzx (cut w 21 5) (cut w 16 5) (cut w 11 5))
+    else if cut w 1 10 == 104 then Some (ArithmeticUnary Neg (cut w 21 5) (cut w 16 5) (is_one (cut w 0 1)))
+    else if cut w 1 10 == 119 then Some (LoadIndexedUpdate Lbzux (cut w 21 5) (cut w 16 5) (cut w 11 5))
+    else if cut w 1 10 == 124 then Some (Logic Nor (cut w 21 5) (cut w 16 5) (cut w 11 5) (is_one (cut w 0 1)))
+    else if cut w 1 10 == 136 then Some (Arithmetic Subfe (cut w 21 5) (cut w 16 5) (cut w 11 5) (is_one (cut w 0 1)))
+    else if cut w 1 10 == 138 then Some (Arithmetic Adde (cut w 21 5) (cut w 16 5) (cut w 11 5) (is_one (cut w 0 1)))
+    else if cut w 1 10 == 144 then Some (MoveToCr (cut w 21 5) (cut w 12 8))
+    else if cut w 1 10 == 151 then Some (StoreIndexed Stwx (cut w 21 5) (cut w 16 5) (cut w 11 5))
+    else if cut w 1 10 == 183 then Some (StoreIndexedUpdate Stwux (cut w 21 5) (cut w 16 5) (cut w 11 5))
+    else if cut w 1 10 == 200 then Some (ArithmeticUnary Subfze (cut w 21 5) (cut w 16 5) (is_one (cut w 0 1)))
+    else if cut w 1 10 == 202 then Some (ArithmeticUnary Addze (cut w 21 5) (cut w 16 5) (is_one (cut w 0 1)))
+    else if cut w 1 10 == 215 then Some (StoreIndexed Stbx (cut w 21 5) (cut w 16 5) (cut w 11 5))
+    else if cut w 1 10 == 232 then Some (ArithmeticUnary Subfme (cut w 21 5) (cut w 16 5) (is_one (cut w 0 1)))
+    else if cut w 1 10 == 234 then Some (ArithmeticUnary Addme (cut w 21 5) (cut w 16 5) (is_one (cut w 0 1)))
+    else if cut w 1 10 == 235 then Some (Arithmetic Mullw (cut w 21 5) (cut w 16 5) (cut w 11 5) (is_one (cut w 0 1)))
+    else if cut w 1 10 == 247 then Some (StoreIndexedUpdate Stbux (cut w 21 5) (cut w 16 5) (cut w 11 5))
+    else if cut w 1 10 == 266 then Some (Arithmetic Add (cut w 21 5) (cut w 16 5) (cut w 11 5) (is_one (cut w 0 1)))
+    else if cut w 1 10 == 279 then Some (LoadIndexed Lhzx (cut w 21 5) (cut w 16 5) (cut w 11 5))
+    else if cut w 1 10 == 284 then Some (Logic Eqv (cut w 21 5) (cut w 16 5) (cut w 11 5) (is_one (cut w 0 1)))
+    else if cut w 1 10 == 311 then Some (LoadIndexedUpdate Lhzux (cut w 21 5) (cut w 16 5) (cut w 11 5))
+    else if cut w 1 10 == 316 then Some (Logic Xor (cut w 21 5) (cut w 16 5) (cut w 11 5) (is_one (cut w 0 1)))
+    else if cut w 1 10 == 339 then Some (MoveFromSpr (cut w 21 5) (cut w 11 5 * 2 ^ 5 + cut w 16 5))
+    else if cut w 1 10 == 343 then Some (LoadIndexed Lhax (cut w 21 5) (cut w 16 5) (cut w 11 5))
+    else if cut w 1 10 == 375 then Some (LoadIndexedUpdate Lhaux (cut w 21 5) (cut w 16 5) (cut w 11 5))
+    else if cut w 1 10 == 407 then Some (StoreIndexed Sthx (cut w 21 5) (cut w 16 5) (cut w 11 5))
+    else if cut w 1 10 == 412 then Some (Logic Orc (cut w 21 5) (cut w 16 5) (cut w 11 5) (is_one (cut w 0 1)))
+    else if cut w 1 10 == 439 then Some (StoreIndexedUpdate Sthux (cut w 21 5) (cut w 16 5) (cut w 11 5))
+    else if cut w 1 10 == 444 then Some (Logic Or (cut w 21 5) (cut w 16 5) (cut w 11 5) (is_one (cut w 0 1)))
+    else if cut w 1 10 == 459 then Some (Arithmetic Divwu (cut w 21 5) (cut w 16 5) (cut w 11 5) (is_one (cut w 0 1)))
+    else if cut w 1 10 == 467 then Some (MoveToSpr (cut w 21 5) (cut w 11 5 * 2 ^ 5 + cut w 16 5))
+    else if cut w 1 10 == 476 then Some (Logic Nand (cut w 21 5) (cut w 16 5) (cut w 11 5) (is_one (cut w 0 1)))
+    else if cut w 1 10 == 491 then Some (Arithmetic Divw (cut w 21 5) (cut w 16 5) (cut w 11 5) (is_one (cut w 0 1)))
+    else if cut w 1 10 == 534 then Some (LoadIndexed Lwbrx (cut w 21 5) (cut w 16 5) (cut w 11 5))
+    else if cut w 1 10 == 536 then Some (Logic Srw (cut w 21 5) (cut w 16 5) (cut w 11 5) (is_one (cut w 0 1)))
+    else if cut w 1 10 == 598 then Some (Sync)
+    else if cut w 1 10 == 662 then Some (StoreIndexed Stwbrx (cut w 21 5) (cut w 16 5) (cut w 11 5))
+    else if cut w 1 10 == 790 then Some (LoadIndexed Lhbrx (cut w 21 5) (cut w 16 5) (cut w 11 5))
+    else if cut w 1 10 == 792 then Some (Logic Sraw (cut w 21 5) (cut w 16 5) (cut w 11 5) (is_one (cut w 0 1)))
+    else if cut w 1 10 == 824 then Some (ShiftImmediate (cut w 21 5) (cut w 16 5) (cut w 11 5) (is_one (cut w 0 1)))
+    else if cut w 1 10 == 918 then Some (StoreIndexed Sthbrx (cut w 21 5) (cut w 16 5) (cut w 11 5))
+    else if cut w 1 10 == 922 then Some (LogicUnary Extsh (cut w 21 5) (cut w 16 5) (is_one (cut w 0 1)))
+    else if cut w 1 10 == 954 then Some (LogicUnary Extsb (cut w 21 5) (cut w 16 5) (is_one (cut w 0 1)))
+    else None
+
+unfoldable pub read_19 : ℕ → Option Instr
+read_19 w =
+    if cut w 1 10 == 0 then Some (MoveCrField (cut w 23 3) (cut w 18 3))
+    else if cut w 1 10 == 16 then Some (BranchRegister Bclr (cut w 21 5) (cut w 16 5) (is_one (cut w 0 1)))
+    else if cut w 1 10 == 33 then Some (CrLogic Crnor (cut w 21 5) (cut w 16 5) (cut w 11 5))
+    else if cut w 1 10 == 129 then Some (CrLogic Crandc (cut w 21 5) (cut w 16 5) (cut w 11 5))
+    else if cut w 1 10 == 150 then Some (Isync)
+    else if cut w 1 10 == 193 then Some (CrLogic Crxor (cut w 21 5) (cut w 16 5) (cut w 11 5))
+    else if cut w 1 10 == 225 then Some (CrLogic Crnand (cut w 21 5) (cut w 16 5) (cut w 11 5))
+    else if cut w 1 10 == 257 then Some (CrLogic Crand (cut w 21 5) (cut w 16 5) (cut w 11 5))
+    else if cut w 1 10 == 289 then Some (CrLogic Creqv (cut w 21 5) (cut w 16 5) (cut w 11 5))
+    else if cut w 1 10 == 417 then Some (CrLogic Crorc (cut w 21 5) (cut w 16 5) (cut w 11 5))
+    else if cut w 1 10 == 449 then Some (CrLogic Cror (cut w 21 5) (cut w 16 5) (cut w 11 5))
+    else if cut w 1 10 == 528 then Some (BranchRegister Bcctr (cut w 21 5) (cut w 16 5) (is_one (cut w 0 1)))
+    else None
+
+unfoldable pub read : ℕ → Option Instr
+read w =
+    if cut w 26 6 == 3 then Some (TrapImmediate (cut w 21 5) (cut w 16 5) (cut w 0 16))
+    else if cut w 26 6 == 7 then Some (Immediate Mulli (cut w 21 5) (cut w 16 5) (cut w 0 16))
+    else if cut w 26 6 == 8 then Some (Immediate Subfic (cut w 21 5) (cut w 16 5) (cut w 0 16))
+    else if cut w 26 6 == 10 then Some (CompareImmediate Cmpli (cut w 23 3) (cut w 16 5) (cut w 0 16))
+    else if cut w 26 6 == 11 then Some (CompareImmediate Cmpi (cut w 23 3) (cut w 16 5) (cut w 0 16))
+    else if cut w 26 6 == 12 then Some (Immediate Addic (cut w 21 5) (cut w 16 5) (cut w 0 16))
+    else if cut w 26 6 == 13 then Some (Immediate AddicRecord (cut w 21 5) (cut w 16 5) (cut w 0 16))
+    else if cut w 26 6 == 14 then Some (Immediate Addi (cut w 21 5) (cut w 16 5) (cut w 0 16))
+    else if cut w 26 6 == 15 then Some (Immediate Addis (cut w 21 5) (cut w 16 5) (cut w 0 16))
+    else if cut w 26 6 == 16 then Some (BranchConditional (cut w 21 5) (cut w 16 5) (cut w 2 14) (is_one (cut w 1 1)) (is_one (cut w 0 1)))
+    else if cut w 26 6 == 17 then Some (SystemCall)
+    else if cut w 26 6 == 18 then Some (Branch (cut w 2 24) (is_one (cut w 1 1)) (is_one (cut w 0 1)))
+    else if cut w 26 6 == 19 then read_19 w
+    else if cut w 26 6 == 20 then Some (Rotate Rlwimi (cut w 21 5) (cut w 16 5) (cut w 11 5) (cut w 6 5) (cut w 1 5) (is_one (cut w 0 1)))
+    else if cut w 26 6 == 21 then Some (Rotate Rlwinm (cut w 21 5) (cut w 16 5) (cut w 11 5) (cut w 6 5) (cut w 1 5) (is_one (cut w 0 1)))
+    else if cut w 26 6 == 23 then Some (Rotate Rlwnm (cut w 21 5) (cut w 16 5) (cut w 11 5) (cut w 6 5) (cut w 1 5) (is_one (cut w 0 1)))
+    else if cut w 26 6 == 24 then Some (LogicImmediate Ori (cut w 21 5) (cut w 16 5) (cut w 0 16))
+    else if cut w 26 6 == 25 then Some (LogicImmediate Oris (cut w 21 5) (cut w 16 5) (cut w 0 16))
+    else if cut w 26 6 == 26 then Some (LogicImmediate Xori (cut w 21 5) (cut w 16 5) (cut w 0 16))
+    else if cut w 26 6 == 27 then Some (LogicImmediate Xoris (cut w 21 5) (cut w 16 5) (cut w 0 16))
+    else if cut w 26 6 == 28 then Some (LogicImmediate Andi (cut w 21 5) (cut w 16 5) (cut w 0 16))
+    else if cut w 26 6 == 29 then Some (LogicImmediate Andis (cut w 21 5) (cut w 16 5) (cut w 0 16))
+    else if cut w 26 6 == 31 then read_31 w
+    else if cut w 26 6 == 32 then Some (Load Lwz (cut w 21 5) (cut w 16 5) (cut w 0 16))
+    else if cut w 26 6 == 33 then Some (LoadUpdate Lwzu (cut w 21 5) (cut w 16 5) (cut w 0 16))
+    else if cut w 26 6 == 34 then Some (Load Lbz (cut w 21 5) (cut w 16 5) (cut w 0 16))
+    else if cut w 26 6 == 35 then Some (LoadUpdate Lbzu (cut w 21 5) (cut w 16 5) (cut w 0 16))
+    else if cut w 26 6 == 36 then Some (Store Stw (cut w 21 5) (cut w 16 5) (cut w 0 16))
+    else if cut w 26 6 == 37 then Some (StoreUpdate Stwu (cut w 21 5) (cut w 16 5) (cut w 0 16))
+    else if cut w 26 6 == 38 then Some (Store Stb (cut w 21 5) (cut w 16 5) (cut w 0 16))
+    else if cut w 26 6 == 39 then Some (StoreUpdate Stbu (cut w 21 5) (cut w 16 5) (cut w 0 16))
+    else if cut w 26 6 == 40 then Some (Load Lhz (cut w 21 5) (cut w 16 5) (cut w 0 16))
+    else if cut w 26 6 == 41 then Some (LoadUpdate Lhzu (cut w 21 5) (cut w 16 5) (cut w 0 16))
+    else if cut w 26 6 == 42 then Some (Load Lha (cut w 21 5) (cut w 16 5) (cut w 0 16))
+    else if cut w 26 6 == 43 then Some (LoadUpdate Lhau (cut w 21 5) (cut w 16 5) (cut w 0 16))
+    else if cut w 26 6 == 44 then Some (Store Sth (cut w 21 5) (cut w 16 5) (cut w 0 16))
+    else if cut w 26 6 == 45 then Some (StoreUpdate Sthu (cut w 21 5) (cut w 16 5) (cut w 0 16))
+    else if cut w 26 6 == 46 then Some (Multiple Lmw (cut w 21 5) (cut w 16 5) (cut w 0 16))
+    else if cut w 26 6 == 47 then Some (Multiple Stmw (cut w 21 5) (cut w 16 5) (cut w 0 16))
+    else None
