@@ -1,0 +1,5 @@
+pub mod Parts
+pub mod Roundtrip
+pub mod Spelt
+pub mod Readings
+pub mod Lengths

@@ -1,0 +1,22 @@
+//! The profile of IA-32 that translations use: ops and their one spelling, price and name.
+#![tactic(auto)]
+
+mod bytes;
+mod condition;
+mod decoding;
+mod encoding;
+mod names;
+mod op;
+mod pricing;
+mod profile;
+mod reading;
+#[cfg(test)]
+mod tests;
+
+pub use bytes::Bytes12;
+pub use decoding::{decode, one_reading, one_spelling};
+pub use encoding::encode;
+pub use names::mnemonic;
+pub use op::{AluOp, Condition, ExtendOp, Op, Operand, ShiftOp, UnaryOp};
+pub use pricing::cost;
+pub use profile::in_profile;
