@@ -1,0 +1,6 @@
+pub mod Steps
+pub mod Tried
+pub mod Free
+pub mod CodePlace
+pub mod OneFault
+pub mod OneProgram

@@ -1,0 +1,9 @@
+use Rattle.std.proofs.Common.{sym, subst}
+use Rattle.elf_load.specs.Faults.{IsFault}
+use Rattle.elf_load.specs.declared.refusal.ElfRefusal.{ElfRefusal}
+use Rattle.elf_load.proofs.faults.field_fault.Goals as goal
+
+pub returns-in-Version : goal.returns-in-Version
+returns-in-Version c =
+    subst (λ (rule : ElfRefusal). IsFault rule c.args.kind c.args.bytes.now c.wrong_version.result)
+    (sym c.in-Version.is) c.wrong_version.ensures

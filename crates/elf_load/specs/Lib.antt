@@ -1,0 +1,6 @@
+pub mod Numbers
+pub mod Headers
+pub mod Program
+pub mod Rules
+pub mod Faults
+pub mod Area
