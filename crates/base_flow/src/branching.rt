@@ -1,0 +1,29 @@
+//! Where branches lead.
+
+ghost use Rattle.std.specs.Prelude.{◌≡◌, ◌<◌, ◌^◌};
+ghost use Rattle.base_flow.specs.Target.{branch_target, next_address as next_of};
+
+/// The target of the unconditional branch at `at`, by its field in words.
+pub fn target(field: u32, absolute: bool, at: u32) -> u32
+    requires { field < 2 ^ 24 }
+    ensures { result ≡ branch_target 26 field absolute at }
+{
+    let forward = 4 * field;
+    let offset = if forward < 0x0200_0000 {
+        forward
+    } else {
+        forward + 0xFC00_0000
+    };
+    if absolute {
+        offset
+    } else {
+        at.wrapping_add(offset)
+    }
+}
+
+/// The address behind the instruction at `at`.
+pub fn next_address(at: u32) -> u32
+    ensures { result ≡ next_of at }
+{
+    at.wrapping_add(4)
+}

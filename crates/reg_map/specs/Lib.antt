@@ -1,0 +1,5 @@
+pub mod Registers
+pub mod Home
+pub mod Place
+pub mod Spelled
+pub mod Words

@@ -1,0 +1,14 @@
+//! Where the general registers stand on the host under a register map, and the ops that read them there.
+#![tactic(auto)]
+
+mod home;
+mod place;
+mod registers;
+mod spelled;
+mod words;
+
+pub use home::{CR_HOME, gpr_home};
+pub use place::loc;
+pub use registers::{EAX, EBX, ECX, EDI, EDX, ESI};
+pub use spelled::{alu_from, mov_from};
+pub use words::signed_immediate;
