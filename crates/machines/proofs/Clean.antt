@@ -1,0 +1,127 @@
+-- With no right to read the code a step is the same, and clean, or goes outside.
+use Rattle.std.proofs.Common.{◌≡◌, ℕ, zero, suc, ◌+◌, ◌%◌, ◌^◌, ◌⊎◌, inl, inr, Bool, true, false, cond, not, ◌&&◌, eqb, List, [], ◌∷◌, Option, Some, None, refl, ap}
+use Rattle.space.specs.declared.call.End.TheVariants.{Outside}
+use Rattle.space.specs.Reports.{AnswerValue}
+use Rattle.runs.specs.Machine.{Outcome, Goes, Asks, Ends, After, Along, AgreesFrom}
+use Rattle.runs.specs.Laws.{IsNarrower, StaysIn}
+use Rattle.ia_codec.specs.declared.op.Op.{Op}
+use Rattle.ia_codec.specs.declared.op.Op.TheVariants.{AluTo, AluFrom, AluImm, Unary, MovTo, MovFrom, MovImm, MovByteTo, Extend, Jcc, Jmp, Int80, Int3, Ud2}
+use Rattle.ia_codec.specs.declared.op.UnaryOp.TheVariants.{Neg}
+use Rattle.ia_codec.specs.declared.op.ExtendOp.TheVariants.{MovzxByte}
+use Rattle.reg_map.specs.Registers.{eax, ecx, edx}
+use Rattle.machines.specs.Memory.{each_byte, Rights, Code, is_code}
+use Rattle.machines.specs.Readings.{Fetched}
+use Rattle.machines.specs.Host.{Core, Host, Place, Register, Memory, place_of, choice_at, has_result, bind, reads, gives_to, goes_to, system_call, acts, executes, op_bytes, host_step}
+use Rattle.machines.specs.Agreement.{is_apart, reads_apart, fetched_apart, IsClean, without}
+use Rattle.machines.proofs.Tests.{both, first_of_both, second_of_both, equal}
+
+each_of_both : (p q : ℕ → Bool) (n a : ℕ) → each_byte (λ x. p x && q x) n a ≡ true → (each_byte p n a ≡ true) × (each_byte q n a ≡ true)
+unfolding each_byte
+each_of_both p q zero a h = (refl, refl)
+each_of_both p q (suc n) a h =
+    let here : (p (a % 2 ^ 32) && q (a % 2 ^ 32)) ≡ true = first_of_both _ (each_byte (λ x. p x && q x) n (a + 1)) h in
+    let rest = each_of_both p q n (a + 1) (second_of_both (p (a % 2 ^ 32) && q (a % 2 ^ 32)) _ h) in
+    (both (p (a % 2 ^ 32)) (each_byte p n (a + 1)) (first_of_both _ (q (a % 2 ^ 32)) here) rest.0, both (q (a % 2 ^ 32)) (each_byte q n (a + 1)) (second_of_both (p (a % 2 ^ 32)) _ here) rest.1)
+
+module _ (rights : Rights) (code : Code) where
+  abbrev narrow : Rights
+  narrow = without code rights
+
+  -- all is held, also in the larger space, and none of it is code; or not all is held
+  held_less : (n a : ℕ) → ((each_byte narrow.held n a ≡ true) × (each_byte rights.held n a ≡ true) × (each_byte (λ x. not (is_code code x)) n a ≡ true)) ⊎ (each_byte narrow.held n a ≡ false)
+  held_less n a = by_test (each_byte narrow.held n a) refl
+    where
+      by_test : (b : Bool) → each_byte narrow.held n a ≡ b → ((each_byte narrow.held n a ≡ true) × (each_byte rights.held n a ≡ true) × (each_byte (λ x. not (is_code code x)) n a ≡ true)) ⊎ (each_byte narrow.held n a ≡ false)
+      by_test true e = let parts = each_of_both rights.held (λ x. not (is_code code x)) n a e in inl (e, parts.0, parts.1)
+      by_test false e = inr e
+
+  abbrev ReadsLess : Core → Place → Type 0
+  ReadsLess core place = ((reads narrow core place ≡ reads rights core place) × (is_apart code place ≡ true)) ⊎ (reads narrow core place ≡ None)
+
+  reads_less : (core : Core) (place : Place) → ReadsLess core place
+  reads_less core (Register r) = inl (refl, refl)
+  reads_less core (Memory size address) = by_held (held_less size address)
+    where
+      by_held : ((each_byte narrow.held size address ≡ true) × (each_byte rights.held size address ≡ true) × (each_byte (λ x. not (is_code code x)) size address ≡ true)) ⊎ (each_byte narrow.held size address ≡ false) → ReadsLess core (Memory size address)
+      by_held (inl h) = inl (rw (h.0, h.1) refl, h.2)
+      by_held (inr e) = inr (rw e refl)
+
+  -- the same in both spaces, with the fact that it is apart; or outside in the smaller
+  abbrev Less : Outcome Host → Outcome Host → Bool → Type 0
+  Less small large apart = ((small ≡ large) × (apart ≡ true)) ⊎ (small ≡ Ends Outside)
+
+  -- an op that reads at one place
+  one_read : (next : ℕ) (h : Host) (place : Place) (then : ℕ → Option Core) → ReadsLess h.core place → Less (goes_to rights next h (bind (reads narrow h.core place) then)) (goes_to rights next h (bind (reads rights h.core place) then)) (is_apart code place)
+  one_read next h place then (inl e) = inl (ap (λ (o : Option ℕ). goes_to rights next h (bind o then)) e.0, e.1)
+  one_read next h place then (inr e) = inr (ap (λ (o : Option ℕ). goes_to rights next h (bind o then)) e)
+
+  system_less : (next : ℕ) (h : Host) → Less (system_call narrow next h) (system_call rights next h) (reads_apart code Int80 h.core)
+  system_less next h = by_number (eqb (h.core.regs eax) 4) refl
+    where
+      by_write : h.core.regs 0 ≡ 4 → ((each_byte narrow.held (h.core.regs edx) (h.core.regs ecx) ≡ true) × (each_byte rights.held (h.core.regs edx) (h.core.regs ecx) ≡ true) × (each_byte (λ x. not (is_code code x)) (h.core.regs edx) (h.core.regs ecx) ≡ true)) ⊎ (each_byte narrow.held (h.core.regs edx) (h.core.regs ecx) ≡ false) → Less (system_call narrow next h) (system_call rights next h) (reads_apart code Int80 h.core)
+      by_write e (inl held) = inl (rw (e, held.0, held.1) refl, rw (e, held.2) refl)
+      by_write e (inr held) = inr (rw (e, held) refl)
+
+      by_number : (b : Bool) → eqb (h.core.regs eax) 4 ≡ b → Less (system_call narrow next h) (system_call rights next h) (reads_apart code Int80 h.core)
+      by_number true e = by_write (equal (h.core.regs 0) 4 e) (held_less (h.core.regs edx) (h.core.regs ecx))
+      by_number false e = inl (rw e refl, rw e refl)
+
+  acts_less : (op : Op) (next : ℕ) (h : Host) → Less (acts narrow op next h) (acts rights op next h) (reads_apart code op h.core)
+  acts_less (AluTo op to from) next h = one_read next h (place_of 4 to h.core.regs) (λ x. gives_to rights (AluTo op to from) (choice_at h.choices 0) (has_result op) (place_of 4 to h.core.regs) h.core x (h.core.regs from)) (reads_less h.core (place_of 4 to h.core.regs))
+  acts_less (AluFrom op to from) next h = one_read next h (place_of 4 from h.core.regs) (gives_to rights (AluFrom op to from) (choice_at h.choices 0) (has_result op) (Register to) h.core (h.core.regs to)) (reads_less h.core (place_of 4 from h.core.regs))
+  acts_less (AluImm op to imm) next h = one_read next h (place_of 4 to h.core.regs) (λ x. gives_to rights (AluImm op to imm) (choice_at h.choices 0) (has_result op) (place_of 4 to h.core.regs) h.core x imm) (reads_less h.core (place_of 4 to h.core.regs))
+  acts_less (Unary Neg on) next h = one_read next h (place_of 4 on h.core.regs) (gives_to rights (Unary Neg on) (choice_at h.choices 0) true (place_of 4 on h.core.regs) h.core 0) (reads_less h.core (place_of 4 on h.core.regs))
+  acts_less (MovTo to from) next h = inl (refl, refl)
+  acts_less (MovFrom to from) next h = one_read next h (place_of 4 from h.core.regs) (gives_to rights (MovFrom to from) (choice_at h.choices 0) true (Register to) h.core 0) (reads_less h.core (place_of 4 from h.core.regs))
+  acts_less (MovImm to imm) next h = inl (refl, refl)
+  acts_less (MovByteTo to from) next h = inl (refl, refl)
+  acts_less (Extend MovzxByte to from) next h = one_read next h (place_of 1 from h.core.regs) (gives_to rights (Extend MovzxByte to from) (choice_at h.choices 0) true (Register to) h.core 0) (reads_less h.core (place_of 1 from h.core.regs))
+  acts_less (Jcc condition rel) next h = inl (refl, refl)
+  acts_less (Jmp rel) next h = inl (refl, refl)
+  acts_less Int80 next h = system_less next h
+  acts_less Int3 next h = inl (refl, refl)
+  acts_less Ud2 next h = inl (refl, refl)
+  acts_less _ next h = inl (refl, refl)
+
+  executes_less : (f : Option Fetched) (h : Host) → Less (executes narrow f h) (executes rights f h) (fetched_apart code f h.core)
+  executes_less None h = inl (refl, refl)
+  executes_less (Some f) h = acts_less f.op ((h.eip + f.len) % 2 ^ 32) h
+
+  module _ (ops : List ℕ → Option Fetched) where
+    step_less : (h : Host) (b : Bool) → Less (executes narrow (ops (op_bytes code h.eip)) h) (executes rights (ops (op_bytes code h.eip)) h) (fetched_apart code (ops (op_bytes code h.eip)) h.core) → Less (cond b (executes narrow (ops (op_bytes code h.eip)) h) (Ends Outside)) (cond b (executes rights (ops (op_bytes code h.eip)) h) (Ends Outside)) (fetched_apart code (ops (op_bytes code h.eip)) h.core)
+    step_less h true less = less
+    step_less h false less = inr refl
+
+    host_less : (h : Host) → Less (host_step narrow code ops h) (host_step rights code ops h) (fetched_apart code (ops (op_bytes code h.eip)) h.core)
+    host_less h = step_less h (is_code code h.eip) (executes_less (ops (op_bytes code h.eip)) h)
+
+    pub is_narrower : IsNarrower (host_step narrow code ops) (host_step rights code ops)
+    is_narrower h = by_less (host_less h)
+      where
+        by_less : Less (host_step narrow code ops h) (host_step rights code ops h) (fetched_apart code (ops (op_bytes code h.eip)) h.core) → (host_step narrow code ops h ≡ host_step rights code ops h) ⊎ (host_step narrow code ops h ≡ Ends Outside)
+        by_less (inl e) = inl e.0
+        by_less (inr e) = inr e
+
+    pub stays_is_clean : (h : Host) → StaysIn (host_step narrow code ops) (host_step rights code ops) h → IsClean code ops h
+    stays_is_clean h stays = by_less (host_less h)
+      where
+        by_less : Less (host_step narrow code ops h) (host_step rights code ops h) (fetched_apart code (ops (op_bytes code h.eip)) h.core) → IsClean code ops h
+        by_less (inl e) = e.1
+        by_less (inr e) = absurd (stays.inside e)
+
+-- what follows from P at each step
+module _ {S : Type 0} (P Q : S → Type 0) (follows : (s : S) → P s → Q s) (step : S → Outcome S) where
+  along_behind : (n : ℕ) (answers : List AnswerValue) (o : Outcome S) → ((later : List AnswerValue) (t : S) → Along P step n later t → Along Q step n later t) → After (Along P step n) answers o → After (Along Q step n) answers o
+  along_behind n answers (Goes t) rest h = rest answers t h
+  along_behind n [] (Asks call next) rest h = tt
+  along_behind n (a ∷ later) (Asks call next) rest h = rest later (next a) h
+  along_behind n answers (Ends e) rest h = tt
+
+  along : (n : ℕ) (answers : List AnswerValue) (s : S) → Along P step n answers s → Along Q step n answers s
+  along zero answers s h = tt
+  along (suc n) answers s h = (follows s h.0, along_behind n answers (step s) (λ later t. along n later t) h.1)
+
+  pub agrees_too : {G : Type 0} (guest : G → Outcome G) (g : G) (s : S) → AgreesFrom guest step P g s → AgreesFrom guest step Q g s
+  agrees_too guest g s agrees answers n =
+      let r = agrees answers n in
+      record { m = r.m; soon = r.soon; clean = along r.m answers s r.clean; agrees = r.agrees }

@@ -1,0 +1,13 @@
+pub mod Steps
+pub mod Traces
+pub mod Small
+pub mod OneReading
+pub mod Tests
+pub mod WordReading
+pub mod OpReading
+pub mod Stack
+pub mod Calls
+pub mod Choices
+pub mod HostSmall
+pub mod Clean
+pub mod Homes

@@ -1,0 +1,5 @@
+use Rattle.machines.specs.Guest.{guest_start}
+use Rattle.machines.proofs.laws.guest_keeps_calls.Goals as goal
+
+pub returns : goal.returns
+returns c = λ words p answers n more. c.keeps_calls.ensures (words, p) n more answers (guest_start p)

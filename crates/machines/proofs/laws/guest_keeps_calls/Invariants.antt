@@ -1,0 +1,8 @@
+use Rattle.std.proofs.Common.{ℕ, Option}
+use Rattle.space.specs.declared.program.Program.{Program}
+use Rattle.ppc_isa.specs.declared.instr.Instr.{Instr}
+use Rattle.machines.specs.Guest.{Guest, guest_machine}
+use Rattle.machines.proofs.laws.guest_keeps_calls.Given as goal
+
+abbrev pub ghosts-keeps_calls : goal.ghosts-keeps_calls
+ghosts-keeps_calls a = record { Setting = (ℕ → Option Instr) × Program; State = Guest; step = λ s. guest_machine s.0 s.1 }

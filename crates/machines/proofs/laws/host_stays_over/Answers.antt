@@ -1,0 +1,5 @@
+use Rattle.machines.specs.Host.{host_start}
+use Rattle.machines.proofs.laws.host_stays_over.Goals as goal
+
+pub returns : goal.returns
+returns c = λ ops p answers choices n more. c.stays_over.ensures (ops, p) n more answers (host_start p choices)

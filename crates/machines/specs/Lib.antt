@@ -1,0 +1,10 @@
+pub mod Memory
+pub mod Readings
+pub mod Guest
+pub mod Host
+pub mod Agreement
+pub mod Representation
+pub mod Examples
+pub mod Laws
+pub mod HostExamples
+pub mod Files

@@ -1,0 +1,14 @@
+//! The two machines, their runs, and when a translation agrees with its program.
+#![tactic(auto)]
+
+mod examples;
+mod laws;
+
+pub use examples::{
+    adds_a_negative_number, answers_to_a_read, answers_to_a_write, branches, exits_with_seven,
+    host_programs, illegal_word, unknown_call_is_an_error, writes_from_the_stack,
+};
+pub use laws::{
+    agrees_if_narrowly, codes_are_unique, guest_keeps_calls, guest_stays_over, homes_are_apart,
+    host_keeps_calls, host_stays_over, host_uses_first_choices, readings_are_one, readings_exist,
+};
