@@ -1,0 +1,13 @@
+pub mod Memory
+pub mod Places
+pub mod Sheets
+pub mod Lines
+pub mod Rows
+pub mod Items
+pub mod Flows
+pub mod SystemCall
+pub mod FlowRows
+pub mod Targets
+pub mod Frames
+pub mod Anywhere
+pub mod Walked

@@ -1,0 +1,6 @@
+pub mod Perform
+pub mod Relocated
+pub mod Row
+pub mod Flow
+pub mod Standing
+pub mod Laws

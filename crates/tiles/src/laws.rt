@@ -1,0 +1,71 @@
+//! What the tiles do. Each law is the contract of a function that does nothing.
+
+ghost use Rattle.tiles.specs.Standing.{OpsAreWalked, FlowsAreWalked};
+ghost use Rattle.tiles.specs.Laws.{AddiTileDoesRow, AddTileDoesRow, TilesDoRows, BranchTargetsAreOne, BranchTileDoesRow, SystemCallTileDoesRow, FlowTilesDoRows, PlacesAreRead, PlacesAreWritten, LoadsKeepMemory, OpsStandAnywhere, ProgramsWriteHeld};
+
+/// Under every register map, the place of a location can be read and has its value; it can be written,
+/// and behind that the new value is represented and all else as before.
+pub fn places_hold()
+    ensures read { PlacesAreRead }
+    ensures written { PlacesAreWritten }
+{}
+
+/// Under every register map the tile of addi does what its row does.
+pub fn addi_tile()
+    ensures { AddiTileDoesRow }
+{}
+
+/// Under every register map the tile of add does what its row does.
+pub fn add_tile()
+    ensures { AddTileDoesRow }
+{}
+
+/// Each tile of a built word that is no flow word does what the word's row does.
+pub fn tiles_do_rows()
+    ensures { TilesDoRows }
+{}
+
+/// The tile of b is left to the address where its row goes on, and its target is the guest's.
+pub fn branch_tile()
+    ensures targets { BranchTargetsAreOne }
+    ensures row { BranchTileDoesRow }
+{}
+
+/// Under the empty map the tile of sc makes the guest's call, with the same bytes, and behind every
+/// answer represents the guest's next state; an exit is the guest's, an unknown number has its error.
+pub fn system_call_tile()
+    ensures { SystemCallTileDoesRow }
+{}
+
+/// Each tile of a built flow word does what the word's row does.
+pub fn flow_tiles_do_rows()
+    ensures { FlowTilesDoRows }
+{}
+
+/// What a program may write lies in its segments.
+pub fn programs_write_held()
+    ensures { ProgramsWriteHeld }
+{}
+
+/// Ops that do what instructions without a store do keep every byte outside the home page, and the
+/// homes of GPRs that registers hold.
+pub fn loads_keep_memory()
+    ensures { LoadsKeepMemory }
+{}
+
+/// Where an op stands that is no jump decides nothing but the next op's address.
+pub fn op_stands_anywhere()
+    ensures { OpsStandAnywhere }
+{}
+
+/// A machine that comes to ops that stand one behind another makes a step for each and stands behind
+/// them with the core that they lead to.
+pub fn ops_are_walked()
+    ensures { OpsAreWalked }
+{}
+
+/// A machine that comes to the items of a flow tile in the code leaves them as the tile's exit says, in
+/// at most one step for each item.
+pub fn flows_are_walked()
+    ensures { FlowsAreWalked }
+{}
