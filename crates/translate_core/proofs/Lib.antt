@@ -1,0 +1,2 @@
+pub mod LaidItems
+pub mod Placing

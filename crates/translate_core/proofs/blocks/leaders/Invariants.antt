@@ -1,0 +1,5 @@
+use Rattle.std.proofs.Common.{◌≡◌, length, vec_len}
+use Rattle.translate_core.proofs.blocks.leaders.Given as goal
+
+abbrev pub invariant-loop-place : goal.invariant-loop-place
+invariant-loop-place l = vec_len l.leaders ≡ length l.words

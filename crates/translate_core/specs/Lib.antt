@@ -1,0 +1,4 @@
+pub mod Built
+pub mod Blocks
+pub mod Code
+pub mod File
