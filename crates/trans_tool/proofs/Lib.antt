@@ -1,0 +1,3 @@
+pub mod Three
+pub mod Coming
+pub mod Refusing

@@ -1,0 +1,30 @@
+-- The status number and the line of each cause, and what the sink of errors then shows.
+use Rattle.std.specs.Prelude.{◌≡◌, ◌⊎◌, ℕ, List, [], ◌++◌, codes, decimal, Option}
+use Rattle.std.specs.Io.KnownBytes.{Appends}
+use Rattle.outside.specs.Causes.{Rose}
+use Rattle.outside.specs.Streams.{AppendsPrefix}
+use Rattle.trans_tool.specs.declared.cause.Cause.{Cause}
+use Rattle.trans_tool.specs.declared.cause.Cause.TheVariants.{Done, Usage, FileRead, FileWrite, ErrFault, Memory, Unbuilt}
+
+abbrev pub code_of : Cause → ℕ
+code_of Done = 0
+code_of Usage = 64
+code_of (FileRead file) = 70
+code_of (FileWrite file) = 71
+code_of ErrFault = 73
+code_of Memory = 74
+code_of (Unbuilt address) = 80
+
+abbrev pub line_of : Cause → List ℕ
+line_of Done = []
+line_of Usage = codes "trans: bad words\n"
+line_of (FileRead file) = codes "trans: cannot read file " ++ decimal file ++ codes "\n"
+line_of (FileWrite file) = codes "trans: cannot write file " ++ decimal file ++ codes "\n"
+line_of ErrFault = []
+line_of Memory = codes "trans: out of memory\n"
+line_of (Unbuilt address) = codes "trans: not built at " ++ decimal address ++ codes "\n"
+
+-- the line of the cause was put whole, or a prefix of it and then the sink failed
+abbrev pub IsTold : Cause → Cause → Option (List ℕ) → Option (List ℕ) → ℕ → ℕ → Type 0
+IsTold cause told old new faults faults' =
+    ((told ≡ cause) × Appends old new (line_of cause)) ⊎ ((told ≡ ErrFault) × Rose faults faults' × AppendsPrefix old new (line_of cause))

@@ -1,0 +1,93 @@
+//! Why a run ended: its status number and its line on the standard error.
+
+ghost use Rattle.std.specs.Prelude.{◌≡◌, ◌≢◌, ◌⊎◌, IfOk, string_bytes};
+ghost use Rattle.outside.specs.Causes.{Rose};
+ghost use Rattle.trans_tool.specs.Lines.{code_of, line_of, IsTold};
+
+use outside::{Sink, put_all};
+use std::alloc::{AllocError, Global};
+
+/// Why a run of the tool ended. File 0 is IN, file 1 is OUT.
+#[derive(Clone, Copy, Debug, PartialEq, Eq)]
+pub enum Cause {
+    /// The command did what it says.
+    Done,
+    /// The words spell no command.
+    Usage,
+    /// The file of this number could not be read.
+    FileRead(u8),
+    /// The file of this number could not be replaced.
+    FileWrite(u8),
+    /// The line of a cause could not be put to the standard error.
+    ErrFault,
+    /// There was no memory for the work.
+    Memory,
+    /// Translation is not built for the word at this address, or, at 0, for a file of this form.
+    Unbuilt(u32),
+}
+
+/// How a run of the tool ended.
+#[derive(Clone, Copy, Debug, PartialEq, Eq)]
+pub struct Status {
+    /// The program's exit status.
+    pub code: u8,
+    pub cause: Cause,
+}
+
+impl Cause {
+    /// The program's exit status for this cause.
+    pub fn code(self) -> u8
+        ensures { result ≡ code_of self }
+    {
+        match self {
+            Cause::Done => 0,
+            Cause::Usage => 64,
+            Cause::FileRead(_) => 70,
+            Cause::FileWrite(_) => 71,
+            Cause::ErrFault => 73,
+            Cause::Memory => 74,
+            Cause::Unbuilt(_) => 80,
+        }
+    }
+
+    fn line(self, alloc: Global) -> Result<String, AllocError>
+        ensures { IfOk result (λ s. string_bytes s ≡ line_of self) }
+    {
+        match self {
+            Cause::Done | Cause::ErrFault => Ok(String::new(alloc)),
+            Cause::Usage => format!(in alloc; "trans: bad words\n"),
+            Cause::FileRead(file) => format!(in alloc; "trans: cannot read file {file}\n"),
+            Cause::FileWrite(file) => format!(in alloc; "trans: cannot write file {file}\n"),
+            Cause::Memory => format!(in alloc; "trans: out of memory\n"),
+            Cause::Unbuilt(address) => format!(in alloc; "trans: not built at {address}\n"),
+        }
+    }
+}
+
+/// Puts the line of a cause, if it has one. Without memory for the line the cause is `Memory`, whose
+/// line takes none; where the line cannot be put it is `ErrFault`.
+pub fn report<E: Sink>(alloc: Global, errors: &mut E, cause: Cause) -> Cause
+    requires { cause ≢ Cause.ErrFault }
+    ensures { IsTold cause result (E.shown errors.old) (E.shown errors.new) (E.faults errors.old) (E.faults errors.new)
+        ⊎ ((cause ≢ Cause.Usage) × IsTold Cause.Memory result (E.shown errors.old) (E.shown errors.new) (E.faults errors.old) (E.faults errors.new)) }
+{
+    match cause {
+        Cause::Done => Cause::Done,
+        Cause::Usage => say(errors, cause, b"trans: bad words\n"),
+        Cause::Memory => say(errors, cause, b"trans: out of memory\n"),
+        _ => match cause.line(alloc) {
+            Ok(line) => say(errors, cause, line.as_bytes()),
+            Err(_) => say(errors, Cause::Memory, b"trans: out of memory\n"),
+        },
+    }
+}
+
+fn say<E: Sink>(errors: &mut E, cause: Cause, line: &[u8]) -> Cause
+    requires { line.now ≡ line_of cause }
+    ensures { IsTold cause result (E.shown errors.old) (E.shown errors.new) (E.faults errors.old) (E.faults errors.new) }
+{
+    match put_all(errors, line) {
+        Ok(()) => cause,
+        Err(_) => Cause::ErrFault,
+    }
+}

@@ -1,0 +1,15 @@
+//! The tool: its words, its commands, its causes and the top call.
+#![tactic(auto)]
+
+mod cause;
+mod entry;
+mod plain;
+mod translate;
+mod whole;
+mod words;
+
+pub use cause::{Cause, Status};
+pub use entry::top;
+
+#[cfg(test)]
+mod tests;
