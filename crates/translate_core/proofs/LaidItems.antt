@@ -1,8 +1,8 @@
 -- Every item of a built instruction is laid out.
-use Rattle.std.proofs.Common.{ℕ, zero, suc, ◌≡◌, ◌<◌, ◌^◌, ◌*◌, eqb, Bool, true, false, cond, List, [], ◌∷◌, ◌++◌, map, length, get_or, All, arith, rules, refl, sym, subst}
+use Rattle.std.proofs.Common.{ℕ, zero, suc, ◌≡◌, ◌<◌, ◌^◌, ◌*◌, eqb, Bool, true, false, cond, List, [], ◌∷◌, ◌++◌, map, length, get_or, All, arith, rules, refl, ap, sym, ◌∙◌, subst, Result, Ok, Err, Vec, Global, IfOk}
 use Rattle.std.proofs.lemmas.Grind.{common_steps}
 use Rattle.std.proofs.lemmas.List.{append-nil}
-use Rattle.ppc_isa.specs.Legal.{IsLegal}
+use Rattle.ppc_isa.specs.Legal.{IsLegal, IsWordOf}
 use Rattle.ppc_isa.specs.declared.instr.Instr.{Instr}
 use Rattle.ppc_isa.specs.declared.instr.Instr.TheVariants.{Immediate, Arithmetic, Branch, SystemCall}
 use Rattle.ppc_isa.specs.declared.instr.ImmediateOp.TheVariants.{Addi}
@@ -18,6 +18,7 @@ use Rattle.ia_codec.specs.declared.op.Op.TheVariants.{MovImm, MovTo, MovFrom, Al
 use Rattle.ia_codec.specs.declared.op.Operand.TheVariants.{Reg, Abs}
 use Rattle.ia_codec.specs.declared.op.AluOp.TheVariants.{Add as Sum}
 use Rattle.base_alu.specs.Tile.{tile as alu_tile}
+use Rattle.translate_core.specs.Blocks.{address_of}
 use Rattle.translate_core.specs.Code.{IsLaid, items, is_flow, no_registers}
 
 EachLaid : List FlowOp → Type 0
@@ -118,3 +119,7 @@ each-laid _ at ends built legal = absurd built
 -- every item of a built instruction is laid out
 pub items-laid : (i : Instr) (at : ℕ) (ends : Bool) (made : List FlowOp) → IsBuilt i → IsLegal i → made ≡ items i at ends → All IsLaid made
 items-laid i at ends made built legal e = subst (λ (xs : List FlowOp). All IsLaid xs) (sym e) (all-laid _ (each-laid i at ends built legal))
+
+pub items-of-word : {E : Type 0} (word at place : ℕ) (ends : Bool) (i : Instr) (result : Result (Vec FlowOp Global) E) → IsWordOf word i → at ≡ address_of place → IfOk result (λ v. v.items ≡ items i at ends) → IfOk result (λ v. (j : Instr) × IsWordOf word j × (v.items ≡ items j (address_of place) ends))
+items-of-word word at place ends i (Ok v) spelled here made = (i, spelled, made ∙ ap (λ (a : ℕ). items i a ends) here)
+items-of-word word at place ends i (Err e) spelled here made = tt

@@ -1,9 +1,16 @@
 -- The ops of a code word, where its home page and its code aren't placed yet.
-use Rattle.std.specs.Prelude.{ℕ, Bool, true, false, List, [], ◌∷◌, ◌++◌, map, None, if◌then◌else◌}
+use Rattle.std.specs.Prelude.{ℕ, ◌+◌, ◌-◌, ◌/◌, ◌%◌, ◌^◌, ◌==◌, Bool, true, false, List, [], ◌∷◌, ◌++◌, map, length, slice_index_or, Option, None, Some, if◌then◌else◌}
 use Rattle.ppc_isa.specs.declared.map.Map.{Map}
 use Rattle.ppc_isa.specs.declared.instr.Instr.{Instr}
 use Rattle.ppc_isa.specs.declared.instr.Instr.TheVariants.{Branch, SystemCall}
-use Rattle.ia_codec.specs.Spelling.{IsInProfile}
+use Rattle.ia_codec.specs.Spelling.{IsInProfile, spelling}
+use Rattle.ia_codec.specs.Reading.{condition_of_number}
+use Rattle.ia_codec.specs.declared.op.Operand.{Operand}
+use Rattle.ia_codec.specs.declared.op.Operand.TheVariants.{Abs}
+use Rattle.ia_codec.specs.declared.op.Op.{Op}
+use Rattle.ia_codec.specs.declared.op.Op.TheVariants.{AluTo, AluFrom, AluImm, TestReg, TestImm, Unary, Imul, MovTo, MovFrom, MovToImm, MovHalfTo, MovByteTo, MovByteFrom, Shift, ShiftByCl, Extend, Set, Cmov, Bsr, Jcc, Jmp, JmpTo}
+use Rattle.ia_codec.specs.declared.op.Condition.{Condition}
+use Rattle.translate_core.specs.Blocks.{address_of}
 use Rattle.base_alu.specs.Tile.{tile as alu_tile}
 use Rattle.base_flow.specs.Tile.{tile as flow_tile}
 use Rattle.base_flow.specs.Target.{next_address}
@@ -35,3 +42,85 @@ IsLaid (Jump condition mark) = Unit {0}
 IsLaid (Mark mark) = Unit {0}
 IsLaid (Edge address) = Unit {0}
 IsLaid Leap = ⊥
+
+-- an operand over the home page at `area`
+abbrev pub operand_at : ℕ → Operand → Operand
+operand_at area (Abs offset) = Abs ((area + offset) % 2 ^ 32)
+operand_at area operand = operand
+
+-- an op over the home page at `area`; the operand of lea is a sum, which no page moves
+abbrev pub op_at : ℕ → Op → Op
+op_at area (AluTo op to from) = AluTo op (operand_at area to) from
+op_at area (AluFrom op to from) = AluFrom op to (operand_at area from)
+op_at area (AluImm op to imm) = AluImm op (operand_at area to) imm
+op_at area (TestReg a b) = TestReg (operand_at area a) b
+op_at area (TestImm a imm) = TestImm (operand_at area a) imm
+op_at area (Unary op on) = Unary op (operand_at area on)
+op_at area (Imul to from) = Imul to (operand_at area from)
+op_at area (MovTo to from) = MovTo (operand_at area to) from
+op_at area (MovFrom to from) = MovFrom to (operand_at area from)
+op_at area (MovToImm to imm) = MovToImm (operand_at area to) imm
+op_at area (MovHalfTo to from) = MovHalfTo (operand_at area to) from
+op_at area (MovByteTo to from) = MovByteTo (operand_at area to) from
+op_at area (MovByteFrom to from) = MovByteFrom to (operand_at area from)
+op_at area (Shift op to by) = Shift op (operand_at area to) by
+op_at area (ShiftByCl op to) = ShiftByCl op (operand_at area to)
+op_at area (Extend op to from) = Extend op to (operand_at area from)
+op_at area (Set condition to) = Set condition (operand_at area to)
+op_at area (Cmov condition to from) = Cmov condition to (operand_at area from)
+op_at area (Bsr to from) = Bsr to (operand_at area from)
+op_at area (JmpTo to) = JmpTo (operand_at area to)
+op_at area op = op
+
+abbrev pub jump_on : Option Condition → ℕ → Op
+jump_on (Some condition) rel = Jcc condition rel
+jump_on None rel = Jmp rel
+
+-- a jump over so many bytes: on the condition of this number, or always
+abbrev pub jump : ℕ → ℕ → Op
+jump condition rel = jump_on (condition_of_number condition) rel
+
+-- how many bytes an item has
+abbrev pub item_length : FlowOp → ℕ
+item_length (Plain op) = length (spelling op)
+item_length (Jump condition mark) = length (spelling (jump condition 0))
+item_length (Mark mark) = 0
+item_length (Edge address) = length (spelling (Jmp 0))
+item_length Leap = 0
+
+unfoldable pub items_length : List FlowOp → ℕ
+items_length [] = 0
+items_length (item ∷ rest) = item_length item + items_length rest
+
+abbrev pub is_mark : FlowOp → ℕ → Bool
+is_mark (Mark here) mark = here == mark
+is_mark _ mark = false
+
+-- how many bytes stand before the first such mark; before the end where there is none
+unfoldable pub before_mark : List FlowOp → ℕ → ℕ
+before_mark [] mark = 0
+before_mark (item ∷ rest) mark = if is_mark item mark then 0 else item_length item + before_mark rest mark
+
+-- the place of the code word that would stand at an address
+abbrev pub place_of : ℕ → ℕ
+place_of address = (address - 0x10000000) / 4
+
+-- where an edge to a guest address leads: to the entry of the code word there, and where none stands there to `hold`
+abbrev pub entry_of : List ℕ → ℕ → ℕ → ℕ
+entry_of entries hold address =
+    if address == address_of (place_of address) then slice_index_or entries (place_of address) hold else hold
+
+-- the bytes of an item at the host address `here`, before the rest of its tile, where an edge to an address leads to
+-- its target; `rel` of a jump is counted from the
+-- address behind it (Intel SDM, volume 2, jmp)
+abbrev pub item_bytes : ℕ → (ℕ → ℕ) → ℕ → FlowOp → List FlowOp → List ℕ
+item_bytes area targets here (Plain op) rest = spelling (op_at area op)
+item_bytes area targets here (Jump condition mark) rest = spelling (jump condition (before_mark rest mark))
+item_bytes area targets here (Mark mark) rest = []
+item_bytes area targets here (Edge address) rest = spelling (Jmp ((targets address + (2 ^ 32 - (here + 5))) % 2 ^ 32))
+item_bytes area targets here Leap rest = []
+
+-- the bytes of items that stand one behind another from `here` on
+unfoldable pub items_bytes : ℕ → (ℕ → ℕ) → ℕ → List FlowOp → List ℕ
+items_bytes area targets here [] = []
+items_bytes area targets here (item ∷ rest) = item_bytes area targets here item rest ++ items_bytes area targets (here + item_length item) rest

@@ -2,3 +2,4 @@ pub mod Built
 pub mod Blocks
 pub mod Code
 pub mod File
+pub mod Leaders

@@ -1,9 +1,10 @@
 //! The blocks of a program, and the order in which their code stands.
 
-ghost use Rattle.std.specs.Prelude.{◌≡◌, ◌≢◌, ◌≤◌, ◌<◌, ◌+◌, ◌*◌, ◌↔◌, ℕ, IsTrue, IfOk, OnOk, IfSome, MatchOption, All, length, vec_len, slice_index};
+ghost use Rattle.std.specs.Prelude.{◌≡◌, ◌≢◌, ◌≤◌, ◌<◌, ◌+◌, ◌*◌, ◌↔◌, ℕ, IsTrue, IfOk, OnOk, MatchOption, Some, All, ◌++◌, true, length, vec_len, get_or, slice_index};
 ghost use Rattle.ppc_isa.specs.Legal.{IsLegal};
 ghost use Rattle.translate_core.specs.Built.{IsBuiltWord};
-ghost use Rattle.translate_core.specs.Blocks.{address_of as address, IsAmong};
+ghost use Rattle.translate_core.specs.Blocks.{address_of as address, IsAmong, IsCut, IsSet, code_order, singles};
+ghost use Rattle.translate_core.specs.Leaders.{named_address, IsLeader};
 ghost use Rattle.translate_core.specs.Code.{is_flow as is_flow_of};
 
 use crate::built::instruction;
@@ -65,6 +66,7 @@ pub fn leaders(alloc: Global, words: &[u32]) -> Result<Vec<bool>, NoMemory>
     requires few { length words.now ≤ 131072 }
     requires built { (k : ℕ) → k < length words.now → IsBuiltWord (slice_index words.now k) }
     ensures count { IfOk result (λ v. vec_len v ≡ length words.now) }
+    ensures each { IfOk result (λ v. (k : ℕ) → k < length words.now → IsSet v.items k ↔ IsLeader words.now k) }
 {
     let mut leaders = vec![in alloc; false; words.len()]?;
     leaders[0] = true;
@@ -86,7 +88,7 @@ fn named_place(instr: &Instr, place: usize, count: usize) -> Option<usize>
     requires legal { IsLegal instr.now }
     requires place { place < count }
     requires few { count ≤ 131072 }
-    ensures { IfSome result (λ k. k < count) }
+    ensures { MatchOption result ((k : ℕ) → k < count → named_address instr.now place ≢ Some (address k)) (λ k. (k < count) × (named_address instr.now place ≡ Some (address k))) }
 {
     match *instr {
         Instr::Branch {
@@ -99,7 +101,10 @@ fn named_place(instr: &Instr, place: usize, count: usize) -> Option<usize>
 }
 
 // Makes the word behind each block of 64 words a leader.
-fn cut_long_blocks(leaders: &mut [bool]) {
+fn cut_long_blocks(leaders: &mut [bool])
+    requires { IsSet leaders.old 0 }
+    ensures { (k : ℕ) → k < length leaders.new → IsSet leaders.new k ↔ IsCut (IsSet leaders.old) k }
+{
     let mut length = 0;
     for leader in leaders.iter_mut() {
         if *leader || length == BLOCK_WORDS {
@@ -115,6 +120,7 @@ pub fn order(alloc: Global, leaders: &[bool]) -> Result<Vec<Laid>, NoMemory>
     requires { length leaders.now ≤ 131072 }
     ensures count { IfOk result (λ v. vec_len v ≤ 2 * length leaders.now) }
     ensures among { IfOk result (λ v. All (IsAmong (length leaders.now)) v.items) }
+    ensures each { IfOk result (λ v. v.items ≡ code_order leaders.now) }
 {
     let mut order = Vec::with_capacity(alloc, 2 * leaders.len())?;
     for (place, leader) in leaders.iter().enumerate() {
@@ -132,6 +138,7 @@ pub fn order(alloc: Global, leaders: &[bool]) -> Result<Vec<Laid>, NoMemory>
 // Whether the block of the code word at a place ends there.
 fn ends_at(leaders: &[bool], place: usize) -> bool
     requires { place < length leaders.now }
+    ensures { result ≡ get_or leaders.now (place + 1) true }
 {
     match leaders.get(place + 1) {
         Some(next) => *next,
@@ -144,6 +151,7 @@ fn put_singles(order: &mut Vec<Laid>, leaders: &[bool]) -> Result<(), NoMemory>
     requires { All (IsAmong (length leaders.now)) order.old.items }
     ensures count { OnOk result (vec_len order.new ≤ vec_len order.old + length leaders.now) }
     ensures among { OnOk result (All (IsAmong (length leaders.now)) order.new.items) }
+    ensures each { OnOk result (order.new.items ≡ order.old.items ++ singles leaders.now (length leaders.now)) }
 {
     for (place, leader) in leaders.iter().enumerate() {
         if !*leader {

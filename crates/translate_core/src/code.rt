@@ -2,10 +2,10 @@
 
 ghost use Rattle.std.specs.Prelude.{◌≡◌, ◌≤◌, ◌<◌, ◌+◌, ◌*◌, ◌^◌, [], ◌∷◌, ◌++◌, IfOk, OnOk, All, map, length, vec_len};
 ghost use Rattle.ia_codec.specs.Spelling.{spelling, IsInProfile, IsOperand, IsMemory, IsByte};
-ghost use Rattle.ppc_isa.specs.Legal.{IsLegal};
+ghost use Rattle.ppc_isa.specs.Legal.{IsLegal, IsWordOf};
 ghost use Rattle.translate_core.specs.Built.{IsBuilt, IsBuiltWord};
 ghost use Rattle.translate_core.specs.Blocks.{address_of as address};
-ghost use Rattle.translate_core.specs.Code.{IsLaid, items};
+ghost use Rattle.translate_core.specs.Code.{IsLaid, items, operand_at as operand_over, op_at, jump as jump_of, item_length as length_of, items_length, before_mark as before_mark_of, entry_of, item_bytes, items_bytes};
 
 use crate::blocks::{address_of, is_flow, place_at};
 use crate::built::instruction;
@@ -29,7 +29,9 @@ pub struct Layout<'a> {
 
 impl Layout<'_> {
     // Where an edge to a guest address leads: to the block there, and outside the code to `hold`.
-    fn target(&self, address: u32) -> u32 {
+    fn target(&self, address: u32) -> u32
+        ensures { result ≡ entry_of self.now.entries.now self.now.code address }
+    {
         match place_at(address, self.entries.len()) {
             Some(place) => self.entries[place],
             None => self.code,
@@ -47,6 +49,7 @@ pub fn word_items(
 ) -> Result<Vec<FlowOp>, NoMemory>
     requires built { IsBuiltWord word }
     requires place { place < 131072 }
+    ensures items { IfOk result (λ v. (i : Instr) × IsWordOf word i × (v.items ≡ items i (address place) ends)) }
     ensures laid { IfOk result (λ v. All IsLaid v.items) }
     ensures few { IfOk result (λ v. vec_len v ≤ 129) }
 {
@@ -102,7 +105,8 @@ fn with_edge(mut items: Vec<FlowOp>, address: u32) -> Result<Vec<FlowOp>, NoMemo
 pub fn length(items: &[FlowOp]) -> u32
     requires laid { All IsLaid items.now }
     requires few { length items.now ≤ 129 }
-    ensures { result ≤ 12 * length items.now }
+    ensures value { result ≡ items_length items.now }
+    ensures bound { result ≤ 12 * length items.now }
 {
     let mut bytes = 0;
     for item in items {
@@ -113,7 +117,8 @@ pub fn length(items: &[FlowOp]) -> u32
 
 fn item_length(item: &FlowOp) -> u32
     requires { IsLaid item.now }
-    ensures { result ≤ 12 }
+    ensures value { result ≡ length_of item.now }
+    ensures bound { result ≤ 12 }
 {
     match item {
         FlowOp::Plain(op) => encode(op).len as u32,
@@ -128,6 +133,7 @@ fn item_length(item: &FlowOp) -> u32
 fn before_mark(items: &[FlowOp], mark: u8) -> u32
     requires laid { All IsLaid items.now }
     requires few { length items.now ≤ 129 }
+    ensures { result ≡ before_mark_of items.now mark }
 {
     let mut bytes = 0;
     for item in items {
@@ -144,7 +150,9 @@ pub fn put(code: &mut Vec<u8>, items: &[FlowOp], layout: &Layout<'_>) -> Result<
     requires laid { All IsLaid items.now }
     requires few { length items.now ≤ 129 }
     requires room { layout.now.code + vec_len code.old + 12 * length items.now < 2 ^ 32 }
-    ensures { OnOk result (vec_len code.new ≤ vec_len code.old + 12 * length items.now) }
+    ensures bytes { OnOk result (code.new.items ≡ code.old.items ++ items_bytes layout.now.area (entry_of layout.now.entries.now layout.now.code) (layout.now.code + vec_len code.old) items.now) }
+    ensures length { OnOk result (vec_len code.new ≡ vec_len code.old + items_length items.now) }
+    ensures bound { OnOk result (vec_len code.new ≤ vec_len code.old + 12 * length items.now) }
 {
     for (place, item) in items.iter().enumerate() {
         let rest = &items[place + 1..];
@@ -164,7 +172,9 @@ fn put_item(
     requires rest { All IsLaid rest.now }
     requires few { length rest.now ≤ 129 }
     requires room { layout.now.code + vec_len code.old + 12 < 2 ^ 32 }
-    ensures { OnOk result (vec_len code.new ≤ vec_len code.old + 12) }
+    ensures bytes { OnOk result (code.new.items ≡ code.old.items ++ item_bytes layout.now.area (entry_of layout.now.entries.now layout.now.code) (layout.now.code + vec_len code.old) item.now rest.now) }
+    ensures length { OnOk result (vec_len code.new ≡ vec_len code.old + length_of item.now) }
+    ensures bound { OnOk result (vec_len code.new ≤ vec_len code.old + 12) }
 {
     match item {
         FlowOp::Plain(op) => put_op(code, &at_home(*op, layout.area)),
@@ -185,7 +195,8 @@ fn put_item(
 
 // A jump over so many bytes: on the condition of this number, or always.
 fn jump(condition: u8, rel: u32) -> Op
-    ensures { IsInProfile result }
+    ensures value { result ≡ jump_of condition rel }
+    ensures profile { IsInProfile result }
 {
     match Condition::from_code(condition) {
         Some(condition) => Op::Jcc { condition, rel },
@@ -197,7 +208,8 @@ fn jump(condition: u8, rel: u32) -> Op
 pub fn put_op(code: &mut Vec<u8>, op: &Op) -> Result<(), NoMemory>
     requires { IsInProfile op.now }
     ensures spelled { OnOk result (code.new.items ≡ code.old.items ++ spelling op.now) }
-    ensures length { OnOk result (vec_len code.new ≤ vec_len code.old + 12) }
+    ensures length { OnOk result (vec_len code.new ≡ vec_len code.old + length (spelling op.now)) }
+    ensures bound { OnOk result (vec_len code.new ≤ vec_len code.old + 12) }
 {
     let spelled = encode(op);
     code.extend_from_slice(&spelled.bytes[..spelled.len as usize])?;
@@ -206,6 +218,7 @@ pub fn put_op(code: &mut Vec<u8>, op: &Op) -> Result<(), NoMemory>
 
 // The operand over the home page at `area`.
 fn operand_at(operand: Operand, area: u32) -> Operand
+    ensures value { result ≡ operand_over area operand }
     ensures operand { IsOperand operand → IsOperand result }
     ensures memory { IsMemory operand → IsMemory result }
     ensures byte { IsByte operand → IsByte result }
@@ -219,7 +232,8 @@ fn operand_at(operand: Operand, area: u32) -> Operand
 // The op over the home page at `area`.
 fn at_home(op: Op, area: u32) -> Op
     requires { IsInProfile op }
-    ensures { IsInProfile result }
+    ensures value { result ≡ op_at area op }
+    ensures profile { IsInProfile result }
 {
     match op {
         Op::AluTo { op, to, from } => Op::AluTo {
