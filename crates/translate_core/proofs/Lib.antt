@@ -5,3 +5,4 @@ pub mod Leaders
 pub mod Placing
 pub mod Lengths
 pub mod Laying
+pub mod Laid

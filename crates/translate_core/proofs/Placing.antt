@@ -1,8 +1,13 @@
 -- Segments that are put one after another.
-use Rattle.std.proofs.Common.{◌≡◌, ◌≤◌, ◌<◌, ◌+◌, ◌-◌, ◌*◌, ◌%◌, ℕ, suc, take, List, [], ◌++◌, length, get_or, drop, replicate, slice_index, Result, Ok, Err, Vec, Global, IfOk, refl, ap, sym, ◌∙◌, subst, append_assoc, drop-cons, arith}
+use Rattle.std.proofs.Common.{◌↔◌, Bool, ◌≡◌, ◌≤◌, ◌<◌, ◌+◌, ◌-◌, ◌*◌, ◌%◌, ℕ, suc, take, List, [], ◌++◌, length, get_or, drop, replicate, slice_index, Result, Ok, Err, Vec, Global, IfOk, refl, ap, sym, ◌∙◌, subst, append_assoc, drop-cons, arith}
 use Rattle.std.proofs.lemmas.Grind.{common_steps}
 use Rattle.std.proofs.lemmas.List.{append-nil}
-use Rattle.translate_core.specs.File.{IsFileOf, IsWrittenFor, area_behind, word, home_page, file_header, elf_file, program_header, program_headers, contents, offset_of, end_of}
+use Rattle.translate_core.specs.File.{IsFileOf, IsCodeFor, IsWrittenFor, area_behind, word, home_page, file_header, elf_file, program_header, program_headers, contents, offset_of, end_of}
+use Rattle.translate_core.specs.Blocks.{IsSet, code_order}
+use Rattle.translate_core.specs.Code.{entry_of}
+use Rattle.translate_core.specs.Layout.{IsCodeOf}
+use Rattle.translate_core.specs.Leaders.{IsLeader}
+use Rattle.translate_core.specs.declared.blocks.Laid.{Laid}
 use Rattle.translate_core.specs.declared.file.Segment.{Segment}
 
 contents-drop : (ss : List Segment) (i n : ℕ) (d : Segment) → i < length ss → contents (drop i ss) n ≡ (replicate (offset_of (get_or ss i d) n - n) 0 ++ (get_or ss i d).bytes.now) ++ contents (drop (i + 1) ss) (end_of (get_or ss i d) n)
@@ -52,6 +57,15 @@ home_page-parts none one two whole n e0 e1 e2 e3 e4 = rw (e4, e3, e2, e1, e0) re
 pub area_behind-least : (count r : ℕ) → 4 * count ≤ r → r < 4 * count + 4096 → r % 4096 ≡ 0 → 0x10000000 + r ≡ area_behind count
 area_behind-least count r low high whole = omega arith
 
-pub written-for : {E : Type 0} (words table code : List ℕ) (area : ℕ) (result : Result (Vec ℕ Global) E) → area ≡ area_behind (length words) → length table ≡ length words → IfOk result (λ v. IsFileOf words area (slice_index table 0) table code v.items) → IfOk result (λ v. IsWrittenFor words v.items)
-written-for words table code area (Ok v) here long is = (table, code, long, subst (λ (a : ℕ). IsFileOf words a (slice_index table 0) table code v.items) here is)
-written-for words table code area (Err e) here long is = tt
+pub written-for : {E : Type 0} (words table code : List ℕ) (area : ℕ) (result : Result (Vec ℕ Global) E) → area ≡ area_behind (length words) → length table ≡ length words → IsCodeFor words area table code → IfOk result (λ v. IsFileOf words area (slice_index table 0) table code v.items) → IfOk result (λ v. IsWrittenFor words v.items)
+written-for words table code area (Ok v) here long laid is = (table, code, long, subst (λ (a : ℕ). IsCodeFor words a table code) here laid, subst (λ (a : ℕ). IsFileOf words a (slice_index table 0) table code v.items) here is)
+written-for words table code area (Err e) here long laid is = tt
+
+-- the code is laid out in the order that the leaders make
+pub code-for : (words : List ℕ) (area begin : ℕ) (table entries code code' : List ℕ) (leaders leaders' : List Bool) (order order' : List Laid) → length leaders ≡ length words → ((k : ℕ) → k < length words → IsSet leaders k ↔ IsLeader words k) → leaders' ≡ leaders → order ≡ code_order leaders' → order' ≡ order → entries ≡ table → code' ≡ code → begin ≡ area + 0x81000 → IsCodeOf words area (entry_of entries begin) begin order' code → IsCodeFor words area table code'
+code-for words area begin table entries code code' leaders leaders' order order' count each e0 e1 e2 e3 e4 e5 laid = record {
+  leaders = leaders;
+  count = count;
+  each = each;
+  laid = rw (e4, ← e0, ← e1, ← e2, ← e3, ← e5) laid;
+}

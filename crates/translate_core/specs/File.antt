@@ -1,9 +1,13 @@
 -- The written file: System V ABI, ELF32 (file header, program headers), for IA-32 (e_machine 3),
 -- little-endian. Each header is the list of its fields in order.
-use Rattle.std.specs.Prelude.{◌≡◌, ℕ, ◌+◌, ◌-◌, ◌*◌, ◌/◌, ◌%◌, ◌^◌, ◌≤◌, ◌==◌, List, [], ◌∷◌, ◌++◌, length, replicate, slice_index, if◌then◌else◌}
+use Rattle.std.specs.Prelude.{◌≡◌, ℕ, ◌+◌, ◌-◌, ◌*◌, ◌/◌, ◌%◌, ◌^◌, ◌<◌, ◌≤◌, ◌↔◌, ◌==◌, Bool, List, [], ◌∷◌, ◌++◌, length, replicate, slice_index, if◌then◌else◌}
 use Rattle.std.specs.Int.{to_le_bytes, w16, w32}
 use Rattle.std.specs.List.{flat_map}
 use Rattle.byteorder.specs.Endian.{big_bytes, little_bytes}
+use Rattle.translate_core.specs.Blocks.{IsSet, code_order}
+use Rattle.translate_core.specs.Code.{entry_of}
+use Rattle.translate_core.specs.Layout.{IsCodeOf}
+use Rattle.translate_core.specs.Leaders.{IsLeader}
 use Rattle.translate_core.specs.declared.file.Segment.{Segment}
 
 -- five segments of this size have offsets of 32 bits
@@ -87,6 +91,15 @@ pub record IsFileOf (words : List ℕ) (area entry : ℕ) (table code file : Lis
 abbrev pub area_behind : ℕ → ℕ
 area_behind count = 0x10000000 + (4 * count + 4095) / 4096 * 4096
 
--- the file of a program with these code words, by some table and some code
+-- The code of a program with these code words, by which of them are leaders: where edges lead is said by the table.
+pub record IsCodeFor (words : List ℕ) (area : ℕ) (table code : List ℕ) : Type 0 where
+  pub leaders : List Bool
+  pub count : length leaders ≡ length words
+  pub each : (k : ℕ) → k < length words → IsSet leaders k ↔ IsLeader words k
+  pub laid : IsCodeOf words area (entry_of table (area + 0x81000)) (area + 0x81000) (code_order leaders) code
+
+-- the file of a program with these code words, by some table
 abbrev pub IsWrittenFor : List ℕ → List ℕ → Type 0
-IsWrittenFor words file = (table code : List ℕ) × (length table ≡ length words) × IsFileOf words (area_behind (length words)) (slice_index table 0) table code file
+IsWrittenFor words file =
+    (table code : List ℕ) × (length table ≡ length words) × IsCodeFor words (area_behind (length words)) table code
+    × IsFileOf words (area_behind (length words)) (slice_index table 0) table code file

@@ -3,3 +3,4 @@ pub mod Blocks
 pub mod Code
 pub mod File
 pub mod Leaders
+pub mod Layout

@@ -3,6 +3,8 @@
 ghost use Rattle.std.specs.Prelude.{◌≡◌, ◌≤◌, ◌<◌, ◌+◌, ◌*◌, ◌^◌, ℕ, IfOk, All, length, vec_len, slice_index};
 ghost use Rattle.translate_core.specs.Built.{IsBuiltWord};
 ghost use Rattle.translate_core.specs.Blocks.{IsAmong};
+ghost use Rattle.translate_core.specs.Code.{entry_of};
+ghost use Rattle.translate_core.specs.Layout.{IsCodeOf};
 
 use crate::blocks::Laid;
 use crate::code::{Layout, length, put, put_op, word_items};
@@ -48,7 +50,8 @@ pub fn code(
     requires built { (k : ℕ) → k < length words.now → IsBuiltWord (slice_index words.now k) }
     requires among { All (IsAmong (length words.now)) order.now }
     requires room { layout.now.code + 12 + 1548 * length order.now < 2 ^ 32 }
-    ensures { IfOk result (λ v. vec_len v ≤ 12 + 1548 * length order.now) }
+    ensures bytes { IfOk result (λ v. IsCodeOf words.now layout.now.area (entry_of layout.now.entries.now layout.now.code) layout.now.code order.now v.items) }
+    ensures bound { IfOk result (λ v. vec_len v ≤ 12 + 1548 * length order.now) }
 {
     let mut code = Vec::new(alloc);
     put_op(
