@@ -1,19 +1,16 @@
 -- Want of memory may stand in place of every cause but that of the words.
 use Rattle.std.proofs.Common.{◌≢◌, ◌⊎◌, inl, inr, ℕ, List}
 use Rattle.trans_tool.specs.Lines.{IsTold}
-use Rattle.trans_tool.specs.Translate.{Outside, Ends, FilesStand, OthersStand}
+use Rattle.trans_tool.specs.Translate.{Outside, Ends}
 use Rattle.trans_tool.specs.Top.{Comes, Errors, Runs}
 use Rattle.trans_tool.specs.declared.cause.Cause.{Cause}
 use Rattle.trans_tool.specs.declared.cause.Cause.TheVariants.{Done, Usage, FileRead, FileWrite, ErrFault, Memory, Unbuilt}
 
-stand-others : (o : Outside) (to : List ℕ) → FilesStand o → OthersStand o to
-stand-others o to h telling name apart = h telling name
-
 pub ends-memory : (o : Outside) (from to : List ℕ) (cause : Cause) → Ends o from to cause → Ends o from to Memory
-ends-memory o from to Done h = h.others
-ends-memory o from to (FileRead file) h = stand-others o to h.2
-ends-memory o from to (Unbuilt address) h = stand-others o to h.1
-ends-memory o from to (FileWrite file) h = h.2
+ends-memory o from to Done h = inr (h.others, (h.bytes, h.source))
+ends-memory o from to (FileRead file) h = inl h.2
+ends-memory o from to (Unbuilt address) h = inl h.1
+ends-memory o from to (FileWrite file) h = inr (h.2, h.3)
 ends-memory o from to Memory h = h
 ends-memory o from to Usage h = absurd h
 ends-memory o from to ErrFault h = absurd h

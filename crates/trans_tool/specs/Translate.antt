@@ -67,13 +67,14 @@ pub record IsTranslated (o : Outside) (from to : List ℕ) : Type 0 where
   pub written : IsTrue o.tells → o.held' to ≡ Some file
   pub others : OthersStand o to
 
--- what each cause of the command says
+-- What each cause of the command says. Where memory runs out no file has changed, unless OUT was to be replaced: a
+-- replacement that is refused leaves it open.
 abbrev pub Ends : Outside → List ℕ → List ℕ → Cause → Type 0
 Ends o from to Done = IsTranslated o from to
 Ends o from to (FileRead file) = (file ≡ 0) × (o.reads from < o.reads' from) × FilesStand o
 Ends o from to (Unbuilt address) = (((address ≡ 0) × IsUnplain o from) ⊎ StopsAt o from address) × FilesStand o
 Ends o from to (FileWrite file) = (file ≡ 1) × (o.replaces to < o.replaces' to) × OthersStand o to × ((bytes : List ℕ) × IsTranslatable o from bytes)
-Ends o from to Memory = OthersStand o to
+Ends o from to Memory = FilesStand o ⊎ (OthersStand o to × ((bytes : List ℕ) × IsTranslatable o from bytes))
 Ends o from to Usage = ⊥
 Ends o from to ErrFault = ⊥
 

@@ -1,4 +1,4 @@
-use Rattle.std.proofs.Common.{rules}
+use Rattle.std.proofs.Common.{inr, rules}
 use Rattle.trans_tool.proofs.Refusing.{refused-input}
 use Rattle.trans_tool.proofs.translate.translate.Goals as goal
 
@@ -14,3 +14,6 @@ returns-in-Ok-replace g c = record {
   written = search rules;
   others = search rules;
 }
+
+pub returns : goal.returns
+returns g c = inr (search rules, (c.in-Ok.bytes.items, search rules))
