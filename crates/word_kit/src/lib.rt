@@ -1,6 +1,16 @@
-//! What every crate shares: the error of want of memory.
+//! What every crate shares: the error of want of memory, words and the algebra over them, formulas.
 #![tactic(auto)]
 
+mod algebra;
+mod formulas;
+mod masks;
+mod plain_words;
+mod quotients;
+
+pub use algebra::Alg;
+pub use formulas::{Clause, Clauses, Formula, Refutation};
+pub use masks::mask;
+pub use plain_words::Plain;
 use std::alloc::{AllocError, AllocFailed};
 
 /// There was no memory for what a call would have made.
@@ -18,3 +28,6 @@ impl<T: Drop> From<AllocFailed<T>> for NoMemory {
         NoMemory
     }
 }
+
+#[cfg(test)]
+mod tests;

@@ -1,0 +1,4 @@
+pub mod BitSums
+pub mod Rooms
+pub mod MaskBits
+pub mod SignedParts
