@@ -1,3 +1,4 @@
 pub mod LocationSets
 pub mod ReadWords
 pub mod Readings
+pub mod RowExamples

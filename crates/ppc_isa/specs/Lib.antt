@@ -6,4 +6,15 @@ pub mod Names
 pub mod Locations
 pub mod Map
 pub mod Effect
+pub mod Recording
+pub mod SumRows
+pub mod LogicRows
+pub mod ShiftRows
+pub mod RotateRows
+pub mod ProductRows
+pub mod CompareRows
+pub mod FieldRows
+pub mod AccessRows
+pub mod BranchRows
 pub mod Rows
+pub mod Examples

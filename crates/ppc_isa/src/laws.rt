@@ -3,6 +3,7 @@
 ghost use Rattle.std.specs.Prelude.{ℕ, ◌≡◌, Option};
 ghost use Rattle.ppc_isa.specs.Legal.{HasOneInstruction, IsReading};
 ghost use Rattle.ppc_isa.specs.declared.instr.Instr.{Instr};
+ghost use Rattle.ppc_isa.specs.Examples.{SumsCompute, LogicCompute, ShiftsCompute, RotatesCompute, ProductsCompute, ComparesCompute, FieldsCompute, AccessesCompute, BranchesCompute, TrapsCompute};
 
 /// No word is that of two instructions.
 pub fn one_instruction()
@@ -13,4 +14,18 @@ pub fn one_instruction()
 pub fn one_reading()
     ensures exists { (read : ℕ → Option Instr) × IsReading read }
     ensures agree { (f g : ℕ → Option Instr) → IsReading f → IsReading g → (w : ℕ) → f w ≡ g w }
+{}
+
+/// The rows of the definition compute these examples, which are worked out or measured elsewhere.
+pub fn row_examples()
+    ensures sums { SumsCompute }
+    ensures logic { LogicCompute }
+    ensures shifts { ShiftsCompute }
+    ensures rotates { RotatesCompute }
+    ensures products { ProductsCompute }
+    ensures compares { ComparesCompute }
+    ensures fields { FieldsCompute }
+    ensures accesses { AccessesCompute }
+    ensures branches { BranchesCompute }
+    ensures traps { TrapsCompute }
 {}

@@ -17,7 +17,7 @@ pub use instr::{
     LogicOp, LogicUnaryOp, MultipleOp, RotateOp, StoreIndexedOp, StoreIndexedUpdateOp, StoreOp,
     StoreUpdateOp,
 };
-pub use laws::{one_instruction, one_reading};
+pub use laws::{one_instruction, one_reading, row_examples};
 pub use locs::{Locs, reads, writes};
 pub use map::Map;
 pub use names::mnemonic;

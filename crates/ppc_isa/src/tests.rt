@@ -331,7 +331,7 @@ const WORDS: [(u32, &'static str); 280] = [
     (0x44000002, "sc"),
 ];
 
-const ILLEGAL: [(u32, &'static str); 29] = [
+const ILLEGAL: [(u32, &'static str); 49] = [
     (0x84a00000, "update with rA = 0"),
     (0x94a00000, "update with rA = 0"),
     (0x7ca0006e, "update with rA = 0"),
@@ -361,4 +361,24 @@ const ILLEGAL: [(u32, &'static str); 29] = [
     (0x7c0006ac, "eieio"),
     (0x7c2004ac, "lwsync"),
     (0x7c001028, "lwarx"),
+    (0x2c430000, "cmpi with its reserved bit"),
+    (0x2c230000, "cmpi with L"),
+    (0x7c432000, "cmp with its reserved bit"),
+    (0x7fe00009, "tw with bit 31"),
+    (0x7c601026, "mfcr with a reserved bit"),
+    (0x7c600027, "mfcr with bit 31"),
+    (0x7c601920, "mtcrf with bit 20"),
+    (0x7c601121, "mtcrf with bit 31"),
+    (0x7c6802a7, "mfspr with bit 31"),
+    (0x7c6803a7, "mtspr with bit 31"),
+    (0x7c0004ad, "sync with bit 31"),
+    (0x7c64292f, "stwx with bit 31"),
+    (0x7c64286f, "lwzux with bit 31"),
+    (0x7c64296f, "stwux with bit 31"),
+    (0x4c400000, "mcrf with bit 9"),
+    (0x4c020000, "mcrf with bit 14"),
+    (0x4c000001, "mcrf with bit 31"),
+    (0x4c000203, "crand with bit 31"),
+    (0x4c00012d, "isync with bit 31"),
+    (0x4e808020, "bclr with bit 16"),
 ];
