@@ -3,4 +3,13 @@ pub mod Cost
 pub mod Names
 pub mod Reading
 pub mod Effect
+pub mod Sums
+pub mod Logic
+pub mod Shifts
+pub mod Products
+pub mod Divisions
+pub mod Moves
+pub mod Scan
+pub mod Conditions
 pub mod Rows
+pub mod RowExamples
