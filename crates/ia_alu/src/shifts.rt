@@ -1,0 +1,207 @@
+//! Shifts and rotates.
+
+ghost use Rattle.std.specs.Prelude.{◌≡◌, ◌≤◌, ◌<◌, ℕ, Bool, true, false, IfOk, OnOk, OnErr, IsTrue};
+ghost use Rattle.word_kit.specs.PlainOperations.{plain_operations};
+ghost use Rattle.ia_alu.specs.Values.{IsOwned, IsEffectOwned, meant, effect_meant};
+ghost use Rattle.ia_alu.specs.Terms.{settled_term, turned_term, shift_term};
+
+use crate::moves::kept;
+use crate::parts::{choose, is_count, last_left, last_right, over_after, zero_after};
+use crate::{HostEffect, HostIn};
+use ia_codec::ShiftOp;
+use word_kit::{Alg, NoMemory};
+
+// A shift's result with its flags: `last` left last, and OF for a count of 1 says whether `p` and `q` differ.
+fn settled<A: Alg>(
+    alg: &mut A,
+    count: A::W,
+    value: A::W,
+    last: A::B,
+    p: A::B,
+    q: A::B,
+    from: &HostIn<A>,
+) -> Result<HostEffect<A>, NoMemory>
+    requires count_owned { A.word_reach count ≤ A.extent alg.old }
+    requires value_owned { A.word_reach value ≤ A.extent alg.old }
+    requires last_owned { A.flag_reach last ≤ A.extent alg.old }
+    requires p_owned { A.flag_reach p ≤ A.extent alg.old }
+    requires q_owned { A.flag_reach q ≤ A.extent alg.old }
+    requires owned { IsOwned A.word_reach A.flag_reach (A.extent alg.old) from.now }
+    ensures grows { A.extent alg.old ≤ A.extent alg.new }
+    ensures earlier { (v : ℕ → Bool) → A.admits alg.new v → A.admits alg.old v }
+    ensures opaque { A.opaque alg.new ≡ A.opaque alg.old }
+    ensures made { IfOk result (λ r. r ≡ (settled_term A.ops (A.held alg.old) count value last p q from.now).effect) }
+    ensures held { OnOk result (A.held alg.new ≡ (settled_term A.ops (A.held alg.old) count value last p q from.now).held) }
+    ensures fails { OnErr result (IsTrue A.takes_memory) }
+    ensures owned { IfOk result (λ r. IsEffectOwned A.word_reach A.flag_reach (A.extent alg.new) r) }
+    ensures means { IfOk result (λ r. (v : ℕ → Bool) → A.admits alg.new v → effect_meant (λ w. A.word w v) (λ b. A.truth b v) r ≡ (settled_term plain_operations tt (A.word count v) (A.word value v) (A.truth last v) (A.truth p v) (A.truth q v) (meant (λ w. A.word w v) (λ b. A.truth b v) from.now)).effect) }
+{
+    let none = is_count(alg, count, 0)?;
+    let cf = choose(alg, none, from.cf, last)?;
+    let zf = zero_after(alg, none, from.zf, value)?;
+    let sign = alg.bit(value, 31);
+    let sf = choose(alg, none, from.sf, sign)?;
+    let of = over_after(alg, none, count, from.of, p, q, from.free_of)?;
+    let kept = kept(alg, value, from);
+    Ok(HostEffect {
+        cf,
+        zf,
+        sf,
+        of,
+        ..kept
+    })
+}
+
+// A rotate's result with its flags; ZF and SF stay.
+fn turned<A: Alg>(
+    alg: &mut A,
+    count: A::W,
+    value: A::W,
+    last: A::B,
+    p: A::B,
+    q: A::B,
+    from: &HostIn<A>,
+) -> Result<HostEffect<A>, NoMemory>
+    requires count_owned { A.word_reach count ≤ A.extent alg.old }
+    requires value_owned { A.word_reach value ≤ A.extent alg.old }
+    requires last_owned { A.flag_reach last ≤ A.extent alg.old }
+    requires p_owned { A.flag_reach p ≤ A.extent alg.old }
+    requires q_owned { A.flag_reach q ≤ A.extent alg.old }
+    requires owned { IsOwned A.word_reach A.flag_reach (A.extent alg.old) from.now }
+    ensures grows { A.extent alg.old ≤ A.extent alg.new }
+    ensures earlier { (v : ℕ → Bool) → A.admits alg.new v → A.admits alg.old v }
+    ensures opaque { A.opaque alg.new ≡ A.opaque alg.old }
+    ensures made { IfOk result (λ r. r ≡ (turned_term A.ops (A.held alg.old) count value last p q from.now).effect) }
+    ensures held { OnOk result (A.held alg.new ≡ (turned_term A.ops (A.held alg.old) count value last p q from.now).held) }
+    ensures fails { OnErr result (IsTrue A.takes_memory) }
+    ensures owned { IfOk result (λ r. IsEffectOwned A.word_reach A.flag_reach (A.extent alg.new) r) }
+    ensures means { IfOk result (λ r. (v : ℕ → Bool) → A.admits alg.new v → effect_meant (λ w. A.word w v) (λ b. A.truth b v) r ≡ (turned_term plain_operations tt (A.word count v) (A.word value v) (A.truth last v) (A.truth p v) (A.truth q v) (meant (λ w. A.word w v) (λ b. A.truth b v) from.now)).effect) }
+{
+    let none = is_count(alg, count, 0)?;
+    let cf = choose(alg, none, from.cf, last)?;
+    let of = over_after(alg, none, count, from.of, p, q, from.free_of)?;
+    let kept = kept(alg, value, from);
+    Ok(HostEffect { cf, of, ..kept })
+}
+
+fn rol<A: Alg>(alg: &mut A, count: A::W, from: &HostIn<A>) -> Result<HostEffect<A>, NoMemory>
+    requires count_owned { A.word_reach count ≤ A.extent alg.old }
+    requires owned { IsOwned A.word_reach A.flag_reach (A.extent alg.old) from.now }
+    ensures grows { A.extent alg.old ≤ A.extent alg.new }
+    ensures earlier { (v : ℕ → Bool) → A.admits alg.new v → A.admits alg.old v }
+    ensures opaque { A.opaque alg.new ≡ A.opaque alg.old }
+    ensures made { IfOk result (λ r. r ≡ (shift_term A.ops ShiftOp.Rol (A.held alg.old) count from.now).effect) }
+    ensures held { OnOk result (A.held alg.new ≡ (shift_term A.ops ShiftOp.Rol (A.held alg.old) count from.now).held) }
+    ensures fails { OnErr result (IsTrue A.takes_memory) }
+    ensures owned { IfOk result (λ r. IsEffectOwned A.word_reach A.flag_reach (A.extent alg.new) r) }
+    ensures means { IfOk result (λ r. (v : ℕ → Bool) → A.admits alg.new v → effect_meant (λ w. A.word w v) (λ b. A.truth b v) r ≡ (shift_term plain_operations ShiftOp.Rol tt (A.word count v) (meant (λ w. A.word w v) (λ b. A.truth b v) from.now)).effect) }
+{
+    let result = alg.rotate(from.x, count)?;
+    let low = alg.bit(result, 0);
+    let top = alg.bit(result, 31);
+    turned(alg, count, result, low, low, top, from)
+}
+
+fn ror<A: Alg>(alg: &mut A, count: A::W, from: &HostIn<A>) -> Result<HostEffect<A>, NoMemory>
+    requires count_owned { A.word_reach count ≤ A.extent alg.old }
+    requires owned { IsOwned A.word_reach A.flag_reach (A.extent alg.old) from.now }
+    ensures grows { A.extent alg.old ≤ A.extent alg.new }
+    ensures earlier { (v : ℕ → Bool) → A.admits alg.new v → A.admits alg.old v }
+    ensures opaque { A.opaque alg.new ≡ A.opaque alg.old }
+    ensures made { IfOk result (λ r. r ≡ (shift_term A.ops ShiftOp.Ror (A.held alg.old) count from.now).effect) }
+    ensures held { OnOk result (A.held alg.new ≡ (shift_term A.ops ShiftOp.Ror (A.held alg.old) count from.now).held) }
+    ensures fails { OnErr result (IsTrue A.takes_memory) }
+    ensures owned { IfOk result (λ r. IsEffectOwned A.word_reach A.flag_reach (A.extent alg.new) r) }
+    ensures means { IfOk result (λ r. (v : ℕ → Bool) → A.admits alg.new v → effect_meant (λ w. A.word w v) (λ b. A.truth b v) r ≡ (shift_term plain_operations ShiftOp.Ror tt (A.word count v) (meant (λ w. A.word w v) (λ b. A.truth b v) from.now)).effect) }
+{
+    let others = alg.not(count);
+    let zero = alg.lit(0);
+    let carry = alg.flag(true);
+    let (rest, _) = alg.add(others, zero, carry)?;
+    let result = alg.rotate(from.x, rest)?;
+    let top = alg.bit(result, 31);
+    let next = alg.bit(result, 30);
+    turned(alg, count, result, top, top, next, from)
+}
+
+fn shl<A: Alg>(alg: &mut A, count: A::W, from: &HostIn<A>) -> Result<HostEffect<A>, NoMemory>
+    requires count_owned { A.word_reach count ≤ A.extent alg.old }
+    requires owned { IsOwned A.word_reach A.flag_reach (A.extent alg.old) from.now }
+    ensures grows { A.extent alg.old ≤ A.extent alg.new }
+    ensures earlier { (v : ℕ → Bool) → A.admits alg.new v → A.admits alg.old v }
+    ensures opaque { A.opaque alg.new ≡ A.opaque alg.old }
+    ensures made { IfOk result (λ r. r ≡ (shift_term A.ops ShiftOp.Shl (A.held alg.old) count from.now).effect) }
+    ensures held { OnOk result (A.held alg.new ≡ (shift_term A.ops ShiftOp.Shl (A.held alg.old) count from.now).held) }
+    ensures fails { OnErr result (IsTrue A.takes_memory) }
+    ensures owned { IfOk result (λ r. IsEffectOwned A.word_reach A.flag_reach (A.extent alg.new) r) }
+    ensures means { IfOk result (λ r. (v : ℕ → Bool) → A.admits alg.new v → effect_meant (λ w. A.word w v) (λ b. A.truth b v) r ≡ (shift_term plain_operations ShiftOp.Shl tt (A.word count v) (meant (λ w. A.word w v) (λ b. A.truth b v) from.now)).effect) }
+{
+    let result = alg.shift_left(from.x, count)?;
+    let last = last_left(alg, from.x, count)?;
+    let top = alg.bit(result, 31);
+    settled(alg, count, result, last, last, top, from)
+}
+
+fn shr<A: Alg>(alg: &mut A, count: A::W, from: &HostIn<A>) -> Result<HostEffect<A>, NoMemory>
+    requires count_owned { A.word_reach count ≤ A.extent alg.old }
+    requires owned { IsOwned A.word_reach A.flag_reach (A.extent alg.old) from.now }
+    ensures grows { A.extent alg.old ≤ A.extent alg.new }
+    ensures earlier { (v : ℕ → Bool) → A.admits alg.new v → A.admits alg.old v }
+    ensures opaque { A.opaque alg.new ≡ A.opaque alg.old }
+    ensures made { IfOk result (λ r. r ≡ (shift_term A.ops ShiftOp.Shr (A.held alg.old) count from.now).effect) }
+    ensures held { OnOk result (A.held alg.new ≡ (shift_term A.ops ShiftOp.Shr (A.held alg.old) count from.now).held) }
+    ensures fails { OnErr result (IsTrue A.takes_memory) }
+    ensures owned { IfOk result (λ r. IsEffectOwned A.word_reach A.flag_reach (A.extent alg.new) r) }
+    ensures means { IfOk result (λ r. (v : ℕ → Bool) → A.admits alg.new v → effect_meant (λ w. A.word w v) (λ b. A.truth b v) r ≡ (shift_term plain_operations ShiftOp.Shr tt (A.word count v) (meant (λ w. A.word w v) (λ b. A.truth b v) from.now)).effect) }
+{
+    let result = alg.shift_right(from.x, count)?;
+    let last = last_right(alg, from.x, count)?;
+    let top = alg.bit(from.x, 31);
+    let no = alg.flag(false);
+    settled(alg, count, result, last, top, no, from)
+}
+
+fn sar<A: Alg>(alg: &mut A, count: A::W, from: &HostIn<A>) -> Result<HostEffect<A>, NoMemory>
+    requires count_owned { A.word_reach count ≤ A.extent alg.old }
+    requires owned { IsOwned A.word_reach A.flag_reach (A.extent alg.old) from.now }
+    ensures grows { A.extent alg.old ≤ A.extent alg.new }
+    ensures earlier { (v : ℕ → Bool) → A.admits alg.new v → A.admits alg.old v }
+    ensures opaque { A.opaque alg.new ≡ A.opaque alg.old }
+    ensures made { IfOk result (λ r. r ≡ (shift_term A.ops ShiftOp.Sar (A.held alg.old) count from.now).effect) }
+    ensures held { OnOk result (A.held alg.new ≡ (shift_term A.ops ShiftOp.Sar (A.held alg.old) count from.now).held) }
+    ensures fails { OnErr result (IsTrue A.takes_memory) }
+    ensures owned { IfOk result (λ r. IsEffectOwned A.word_reach A.flag_reach (A.extent alg.new) r) }
+    ensures means { IfOk result (λ r. (v : ℕ → Bool) → A.admits alg.new v → effect_meant (λ w. A.word w v) (λ b. A.truth b v) r ≡ (shift_term plain_operations ShiftOp.Sar tt (A.word count v) (meant (λ w. A.word w v) (λ b. A.truth b v) from.now)).effect) }
+{
+    let result = alg.shift_arith(from.x, count)?;
+    let last = last_right(alg, from.x, count)?;
+    let no = alg.flag(false);
+    settled(alg, count, result, last, no, no, from)
+}
+
+/// The shift or rotate by the low five bits of a count.
+pub(crate) fn shift<A: Alg>(
+    alg: &mut A,
+    op: ShiftOp,
+    count: A::W,
+    from: &HostIn<A>,
+) -> Result<HostEffect<A>, NoMemory>
+    requires count_owned { A.word_reach count ≤ A.extent alg.old }
+    requires owned { IsOwned A.word_reach A.flag_reach (A.extent alg.old) from.now }
+    ensures grows { A.extent alg.old ≤ A.extent alg.new }
+    ensures earlier { (v : ℕ → Bool) → A.admits alg.new v → A.admits alg.old v }
+    ensures opaque { A.opaque alg.new ≡ A.opaque alg.old }
+    ensures made { IfOk result (λ r. r ≡ (shift_term A.ops op (A.held alg.old) count from.now).effect) }
+    ensures held { OnOk result (A.held alg.new ≡ (shift_term A.ops op (A.held alg.old) count from.now).held) }
+    ensures fails { OnErr result (IsTrue A.takes_memory) }
+    ensures owned { IfOk result (λ r. IsEffectOwned A.word_reach A.flag_reach (A.extent alg.new) r) }
+    ensures means { IfOk result (λ r. (v : ℕ → Bool) → A.admits alg.new v → effect_meant (λ w. A.word w v) (λ b. A.truth b v) r ≡ (shift_term plain_operations op tt (A.word count v) (meant (λ w. A.word w v) (λ b. A.truth b v) from.now)).effect) }
+{
+    match op {
+        ShiftOp::Rol => rol(alg, count, from),
+        ShiftOp::Ror => ror(alg, count, from),
+        ShiftOp::Shl => shl(alg, count, from),
+        ShiftOp::Shr => shr(alg, count, from),
+        ShiftOp::Sar => sar(alg, count, from),
+    }
+}
