@@ -1,0 +1,9 @@
+pub mod Same
+pub mod Kept
+pub mod Values
+pub mod Numbers
+pub mod Shifts
+pub mod Meanings
+pub mod FreeValues
+pub mod Extended
+pub mod Pushed

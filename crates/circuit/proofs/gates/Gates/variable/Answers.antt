@@ -1,0 +1,35 @@
+use Rattle.std.proofs.Common.{ap}
+use Rattle.circuit.proofs.Same.{node_same, says_at, gate_says_at}
+use Rattle.circuit.proofs.Kept.{AllAgree-inserted, GatesAgree-inserted, ordered_either, counted}
+use Rattle.circuit.specs.Literals.{lit_truth}
+use Rattle.circuit.specs.Nodes.{AllAgree}
+use Rattle.circuit.specs.Extensions.{GatesAgree}
+use Rattle.circuit.specs.contracts.nodes.NodePartialEq.TheImpl.{ghosts}
+use Rattle.circuit.proofs.gates.Gates.variable.Goals as goal
+
+pub returns-in-Ok-clause-earlier : goal.returns-in-Ok-clause-earlier
+returns-in-Ok-clause-earlier c v h = AllAgree-inserted ghosts.eq _ _ c.args.node v c.in-Ok.ensures.keys h
+
+pub returns-in-Ok-clause-means : goal.returns-in-Ok-clause-means
+unfolding AllAgree
+returns-in-Ok-clause-means c = λ v h.
+    let s = c.in-Ok.ensures.stored in
+    says_at _ _ _ _ v (node_same c.args.node s.0 s.2) (ap (λ l. lit_truth l v) c.literal_at.ensures) (h c.in-Ok.index s.0 s.1)
+
+pub invariant_of-self-clause-ordered : goal.invariant_of-self-clause-ordered
+invariant_of-self-clause-ordered c = ordered_either c.insert_full.result ghosts.eq _ _ c.args.node c.insert_full.ensures.keys c.insert_full.ensures.err c.args.self.now.ordered c.requires.reads c.requires.places
+
+pub returns-in-Ok-clause-free : goal.returns-in-Ok-clause-free
+returns-in-Ok-clause-free c = (counted ghosts.eq _ _ c.args.node c.in-Ok.ensures.keys).1
+
+pub returns-in-Ok-clause-counts : goal.returns-in-Ok-clause-counts
+returns-in-Ok-clause-counts c = (counted ghosts.eq _ _ c.args.node c.in-Ok.ensures.keys).0
+
+pub returns-in-Ok-clause-gates : goal.returns-in-Ok-clause-gates
+returns-in-Ok-clause-gates c v h = GatesAgree-inserted ghosts.eq _ _ c.args.node v c.in-Ok.ensures.keys h
+
+pub returns-in-Ok-clause-gate : goal.returns-in-Ok-clause-gate
+unfolding GatesAgree
+returns-in-Ok-clause-gate c = λ v h.
+    let s = c.in-Ok.ensures.stored in
+    gate_says_at _ _ _ _ v (node_same c.args.node s.0 s.2) (ap (λ l. lit_truth l v) c.literal_at.ensures) (h c.in-Ok.index s.0 s.1)

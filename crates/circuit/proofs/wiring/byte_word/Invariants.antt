@@ -1,0 +1,9 @@
+use Rattle.std.proofs.Common.{◌≡◌, length, take}
+use Rattle.circuit.specs.WordsMade.{word_of, byte_bits}
+use Rattle.circuit.proofs.wiring.byte_word.Given as goal
+
+abbrev pub invariant-loop-i : goal.invariant-loop-i
+invariant-loop-i l = record {
+  wide : length l.out ≡ 32;
+  made : take l.i l.out ≡ word_of (byte_bits l.x l.k) l.i;
+}

@@ -1,0 +1,9 @@
+use Rattle.std.proofs.Common.{◌≡◌, length, take}
+use Rattle.circuit.specs.WordsMade.{word_of, not_bits}
+use Rattle.circuit.proofs.wiring.complement_of.Given as goal
+
+abbrev pub invariant-loop-i : goal.invariant-loop-i
+invariant-loop-i l = record {
+  wide : length l.out ≡ 32;
+  made : take l.i l.out ≡ word_of (not_bits l.x) l.i;
+}

@@ -1,0 +1,10 @@
+use Rattle.std.proofs.Common.{◌≡◌, false, length, take}
+use Rattle.circuit.specs.WordsMade.{at, word_of, moved_by}
+use Rattle.circuit.specs.declared.literals.Lit.TheVariants.{Const}
+use Rattle.circuit.proofs.wiring.moved_word.Given as goal
+
+abbrev pub invariant-loop-i : goal.invariant-loop-i
+invariant-loop-i l = record {
+  wide : length l.out ≡ 32;
+  made : take l.i l.out ≡ word_of (λ j. moved_by (Const false) l.turn l.n (at l.x) j) l.i;
+}

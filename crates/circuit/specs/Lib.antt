@@ -1,0 +1,9 @@
+pub mod Literals
+pub mod Nodes
+pub mod Made
+pub mod WordsMade
+pub mod BitGates
+pub mod Turns
+pub mod GatesRange
+pub mod Extensions
+pub mod Miters

@@ -1,0 +1,20 @@
+//! Circuits of gates: an algebra whose words are literals, and formulas of its gates.
+#![tactic(auto)]
+
+mod algebra;
+mod bits;
+mod gates;
+mod laws;
+mod literals;
+mod miters;
+mod nodes;
+mod operations;
+mod wiring;
+mod words;
+
+pub use gates::Gates;
+pub use laws::inputs_extend;
+pub use literals::Lit;
+
+#[cfg(test)]
+mod tests;
