@@ -1,0 +1,4 @@
+pub mod Models
+pub mod Trails
+pub mod Indexes
+pub mod Roots

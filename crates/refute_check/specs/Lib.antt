@@ -1,0 +1,4 @@
+pub mod Propagation
+pub mod Refutations
+pub mod Trails
+pub mod Indexes
