@@ -3,3 +3,4 @@ pub mod Home
 pub mod Place
 pub mod Spelled
 pub mod Words
+pub mod Relocated
