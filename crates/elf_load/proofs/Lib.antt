@@ -4,3 +4,4 @@ pub mod Free
 pub mod CodePlace
 pub mod OneFault
 pub mod OneProgram
+pub mod LowCode

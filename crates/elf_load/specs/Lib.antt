@@ -4,3 +4,4 @@ pub mod Program
 pub mod Rules
 pub mod Faults
 pub mod Area
+pub mod Code

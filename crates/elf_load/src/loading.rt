@@ -5,6 +5,7 @@ ghost use Rattle.space.specs.declared.program.Kind.TheVariants.{PowerPc};
 ghost use Rattle.elf_load.specs.Headers.{header_count};
 ghost use Rattle.elf_load.specs.Program.{zeros, segment_of, segments_before, segments_of, stack, is_code_segment};
 ghost use Rattle.elf_load.specs.Area.{IsArea};
+ghost use Rattle.elf_load.specs.Code.{HasLowCode};
 ghost use Rattle.elf_load.specs.Faults.{PassesBelow, IsProgramOf, IsCause};
 
 use crate::area::find_area;
@@ -129,12 +130,14 @@ fn lay_out(alloc: Global, bytes: &[u8], kind: Kind) -> Result<Program, LoadFault
     }
 }
 
-/// The program that a file lays out, for a machine of this kind.
+/// The program that a file lays out, for a machine of this kind. Its code segment has addresses of user programs.
 ///
 /// A file that breaks a rule is refused with the first rule that it breaks, and where.
+#[tactic(auto, using(crate::proofs::LowCode::code_lies_low))]
 pub fn load(alloc: Global, bytes: &[u8], kind: Kind) -> Result<Program, LoadFault>
     requires { length bytes.now < 4294967295 }
     ensures program { IfOk result (λ program. IsProgramOf kind bytes.now program) }
+    ensures code { IfOk result (λ program. HasLowCode program) }
     ensures fault { IfErr result (λ fault. IsCause kind bytes.now fault) }
 {
     match first_fault(bytes, kind) {
