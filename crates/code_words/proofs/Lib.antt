@@ -1,0 +1,2 @@
+pub mod CodeSegment
+pub mod Words
