@@ -1,0 +1,10 @@
+pub mod Fields
+pub mod Described
+pub mod LaidOut
+pub mod Loads
+pub mod Source
+pub mod Kept
+pub mod Loadable
+pub mod Placing
+pub mod WholeFile
+pub mod Places

@@ -1,0 +1,4 @@
+pub mod File
+pub mod Loaded
+pub mod Translation
+pub mod Parts
