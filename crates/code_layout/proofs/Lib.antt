@@ -1,0 +1,10 @@
+pub mod Bases
+pub mod LaidItems
+pub mod Cuts
+pub mod Leaders
+pub mod Lengths
+pub mod Laying
+pub mod Laid
+pub mod Beginning
+pub mod Conditions
+pub mod Short

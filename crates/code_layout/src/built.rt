@@ -1,0 +1,63 @@
+//! The instructions that translation is built for.
+
+ghost use Rattle.std.specs.Prelude.{◌≡◌, ◌<◌, ◌↔◌, ℕ, IsTrue, IfSome, IfNone, length, slice_index};
+ghost use Rattle.ppc_isa.specs.Legal.{IsWordOf};
+ghost use Rattle.code_layout.specs.Built.{IsBuilt, IsBuiltWord};
+
+use ppc_isa::{ArithmeticOp, ImmediateOp, Instr, decode};
+
+// Whether translation is built for the instruction: addi, add that doesn't record, b that doesn't
+// link, and sc.
+fn is_built(instr: &Instr) -> bool
+    ensures { IsTrue result ↔ IsBuilt instr.now }
+{
+    matches!(
+        *instr,
+        Instr::Immediate {
+            op: ImmediateOp::Addi,
+            ..
+        } | Instr::Arithmetic {
+            op: ArithmeticOp::Add,
+            records: false,
+            ..
+        } | Instr::Branch { link: false, .. }
+            | Instr::SystemCall
+    )
+}
+
+// Whether the word is an instruction that translation is built for.
+fn is_built_word(word: u32) -> bool
+    ensures { IsTrue result ↔ IsBuiltWord word }
+{
+    match decode(word) {
+        Some(instr) => is_built(&instr),
+        None => false,
+    }
+}
+
+/// The place of the first word that translation isn't built for.
+pub fn first_unbuilt(words: &[u32]) -> Option<usize>
+    ensures none { IfNone result ((k : ℕ) → k < length words.now → IsBuiltWord (slice_index words.now k)) }
+    ensures within { IfSome result (λ k. k < length words.now) }
+    ensures unbuilt { IfSome result (λ k. IsBuiltWord (slice_index words.now k) → ⊥) }
+    ensures before { IfSome result (λ k. (j : ℕ) → j < k → IsBuiltWord (slice_index words.now j)) }
+{
+    for (place, word) in words.iter().enumerate() {
+        if !is_built_word(*word) {
+            return Some(place);
+        }
+    }
+    None
+}
+
+/// The instruction of a word that translation is built for.
+pub(crate) fn instruction(word: u32) -> Instr
+    requires { IsBuiltWord word }
+    ensures spelled { IsWordOf word result }
+    ensures built { IsBuilt result }
+{
+    match decode(word) {
+        Some(instr) => instr,
+        None => unreachable!(),
+    }
+}
