@@ -1,0 +1,135 @@
+-- The tiles of flow words: they go on, call, or end.
+use Rattle.std.proofs.Common.{◌≡◌, ◌≢◌, ℕ, suc, ◌<◌, ◌≤◌, ◌⊎◌, inl, inr, List, [], length, Option, None, Contains, refl, sym, ap, ◌∙◌, subst, arith}
+use Rattle.space.specs.declared.call.End.{End}
+use Rattle.space.specs.declared.call.End.TheVariants as ends
+use Rattle.space.specs.declared.call.End.TheVariants.{Outside}
+use Rattle.ppc_isa.specs.declared.map.Map.{Map}
+use Rattle.ppc_isa.specs.declared.instr.Instr.{Instr}
+use Rattle.ppc_isa.specs.Map.{IsMap}
+use Rattle.reg_map.specs.Home.{location_range}
+use Rattle.base_flow.specs.declared.flow_op.FlowOp.{FlowOp}
+use Rattle.runs.specs.Machine.{Outcome, Goes, Asks, Ends, Anywhere}
+use Rattle.runs.specs.Simulation.{Walks, stays, walks, onward, called, over, lost}
+use Rattle.machines.specs.Guest.{Guest, executes}
+use Rattle.machines.specs.Host.{Core, Host}
+use Rattle.tiles.specs.Flow.{Exit, Leaves, Leaps, Stops, Calls, Falls, IsBefore, IsBehind, FitsGoing, Fits, flow}
+use Rattle.tiles.specs.Standing.{EdgeCode, Reaches}
+use Rattle.tiles.proofs.Walked.{flows_are_walked}
+use Rattle.simulation.specs.Setting.{Setting, Stood, Alike, AreAlike, KeepsUnwrittenBy}
+use Rattle.simulation.specs.Plan.{EdgeAt, FlowAt}
+use Rattle.simulation.specs.Relation.{Meets, leaving, IsTranslation}
+use Rattle.simulation.proofs.Full.{full, full_alike, full_represents, full_in_range, IsUnwritten, walk_keeps}
+use Rattle.simulation.proofs.Switches.{Steps}
+
+is_outside : (e : End) → (e ≡ Outside) ⊎ (e ≢ Outside)
+is_outside ends.Running = inr (λ x. cc)
+is_outside (ends.Exit code) = inr (λ x. cc)
+is_outside ends.Trap = inr (λ x. cc)
+is_outside ends.Illegal = inr (λ x. cc)
+is_outside ends.Outside = inl refl
+is_outside ends.Dry = inr (λ x. cc)
+is_outside ends.DivideFault = inr (λ x. cc)
+
+module _ (s : Setting) where
+  -- behind a flow tile: on an edge
+  pub record Lands (p most : ℕ) (g : Guest) (h : Host) : Type 0 where
+    pub j : ℕ
+    pub h' : Host
+    pub few : j ≤ most
+    pub host_walks : Walks Anywhere s.host_step j h h'
+    pub meets : Meets s (suc p) 0 g h'
+
+module _ (s : Setting) (t : IsTranslation s) (map : Map) (is_map : IsMap map) (labels : ℕ → ℕ) (edges : List EdgeCode) (edges_stand : (e : EdgeCode) → Contains edges e → EdgeAt s map e.target e.at) where
+  abbrev Reached : ℕ → Exit → Host → Type 0
+  Reached most exit h = Reaches s.host s.area s.host_step labels edges [] most exit h
+
+  -- g' is the guest, and the exit is that of the guest that is shown
+  lands : (p most : ℕ) (before : Core) (g' shown : Guest) (exit : Exit) (h : Host) → p < 64 → IsUnwritten s h.core → Alike s g' shown → FitsGoing map s.area s.guest before shown exit → Reached most exit h → Lands s p most g' h
+  lands p most before g' shown (Leaves target core) h lt_p unwritten alike fits r =
+      let behind = subst (IsBehind map s.area s.guest shown before) (sym r.5) fits.1 in
+      let stood : Stood s map g' r.1.core = record {
+        is_map = is_map;
+        represents = record {
+          locs = λ x lx alive. behind.represents.locs x lx tt ∙ alike.locs x alive;
+          bytes = λ a held. behind.represents.bytes a held ∙ ap (λ f. f a) alike.bytes;
+        };
+        in_range = λ x lx. subst (λ v. v < location_range x) (sym (behind.represents.locs x lx tt)) (behind.in_range x lx);
+        is_core = behind.is_core;
+        unwritten = walk_keeps s t.keeps r.0 h r.1 r.3 unwritten;
+      } in
+      let edge : EdgeAt s map g'.next r.1.eip = subst (λ w. EdgeAt s map w r.1.eip) (fits.0 ∙ alike.next) (edges_stand _ r.4) in
+      record { j = r.0; h' = r.1; few = r.2; host_walks = r.3; meets = leaving map edge.0 stood edge.2 (omega arith) (omega (arith, edge.1)) }
+  lands p most before g' shown (Leaps core) h lt_p unwritten alike fits r = absurd fits
+  lands p most before g' shown (Stops e) h lt_p unwritten alike fits r = absurd fits
+  lands p most before g' shown (Calls call exits) h lt_p unwritten alike fits r = absurd fits
+  lands p most before g' shown Falls h lt_p unwritten alike fits r = absurd fits
+
+  -- the outcome is the guest's, and the other one that of the guest that is shown
+  pub by_exit : (p q most : ℕ) (g : Guest) (h : Host) (outcome shown : Outcome Guest) (exit : Exit) → p < 64 → q ≤ 40 → most ≤ 100 → IsUnwritten s h.core → s.guest_step g ≡ outcome → AreAlike s outcome shown → Fits map s.area s.guest h.core shown exit → Reached most exit h → Steps s p q g h
+  by_exit p q most g h (Goes g') (Goes shown) exit lt_p le_q few unwritten step alike fits r =
+      let d = lands p most h.core g' shown exit h lt_p unwritten alike fits r in
+      onward (record {
+        k = 1;
+        j = d.j;
+        p' = suc p;
+        q' = 0;
+        g' = g';
+        h' = d.h';
+        guest_walks = walks tt step stays;
+        host_walks = d.host_walks;
+        meets = d.meets;
+        in_block = omega arith;
+        slow = omega arith;
+        fast = omega (arith, d.few);
+      })
+  by_exit p q most g h (Ends e) (Ends shown) exit lt_p le_q few unwritten step same fits r = by_end (is_outside e) fits
+    where
+      by_end : (e ≡ Outside) ⊎ (e ≢ Outside) → (shown ≡ Outside) ⊎ (exit ≡ Stops shown) → Steps s p q g h
+      by_end (inl o) f = lost (record { k = 0; g' = g; guest_walks = stays; goes_outside = step ∙ ap Ends o; in_block = omega arith })
+      by_end (inr n) (inl o) = absurd (n (sym same ∙ o))
+      by_end (inr n) (inr f) =
+          let d = subst (λ x. Reached most x h) f r in
+          over (record { j = d.0; h1 = d.1; how = e; inside = n; guest_ends = step; host_walks = d.3; host_ends = d.4 ∙ ap Ends same; clean = tt; soon = omega (arith, d.2) })
+  by_exit p q most g h (Asks call next) (Asks call' next') (Calls asked exits) lt_p le_q few unwritten step alike fits r =
+      let kept : IsUnwritten s r.2.core = walk_keeps s t.keeps r.0 h r.2 r.5 unwritten in
+      let after : KeepsUnwrittenBy s r.2.core (Asks asked r.3) = subst (KeepsUnwrittenBy s r.2.core) r.6 (t.keeps r.2) in
+      called (record {
+        j = r.0;
+        h1 = r.2;
+        call = call;
+        guest_next = next;
+        host_next = r.3;
+        guest_asks = step;
+        host_walks = r.5;
+        host_asks = r.6 ∙ ap (λ c. Asks c r.3) (fits.0 ∙ alike.0);
+        clean = tt;
+        soon = omega (arith, r.4);
+        answered = λ a. let d = lands p r.1 h.core (next a) (next' a) (exits a) (r.3 a) lt_p (λ x no. after a x no ∙ kept x no) (alike.1 a) (fits.1 a) (r.7 a) in record {
+          i = d.j;
+          p' = suc p;
+          q' = 0;
+          h' = d.h';
+          host_walks = d.host_walks;
+          meets = d.meets;
+          slow = omega arith;
+          fast = omega (arith, d.few, r.4);
+        };
+      })
+  by_exit p q most g h (Asks call next) (Asks call' next') _ lt_p le_q few unwritten step alike fits r = absurd fits
+  by_exit p q most g h _ _ exit lt_p le_q few unwritten step alike fits r = absurd alike
+
+module _ (s : Setting) (t : IsTranslation s) where
+  pub by_flow : (p q : ℕ) (g : Guest) (h : Host) (map : Map) (word : Option Instr) (items : List FlowOp) → Stood s map g h.core → FlowAt s map g.next word items h.eip → p < 64 → q ≤ 40 → Steps s p q g h
+  by_flow p q g h map word items stood st lt_p le_q =
+      let shown = full map s.area h.core g in
+      let alike = full_alike s map g h.core stood in
+      let before : IsBefore map s.area s.guest s.host shown h.core = record {
+        page = t.page;
+        segments = t.segments;
+        writes_held = t.writes_held;
+        represents = full_represents s map g h.core stood;
+        in_range = full_in_range s map g h.core stood;
+        is_core = stood.is_core;
+      } in
+      by_exit s t map stood.is_map st.labels st.edges st.edges_stand p q (length items) g h (executes s.guest word g) (executes s.guest word shown) (flow s.host s.area items None h.choices h.core) lt_p le_q st.few stood.unwritten (st.fetched g refl) (t.live word g shown st.fetched alike)
+      (st.fits shown h.core h.choices refl before) (flows_are_walked s.host s.area s.host_step st.labels st.edges [] items None h.eip h st.stand refl)

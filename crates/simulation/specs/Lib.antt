@@ -1,0 +1,4 @@
+pub mod Windows
+pub mod Setting
+pub mod Plan
+pub mod Relation

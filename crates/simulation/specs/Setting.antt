@@ -1,0 +1,83 @@
+-- The two machines between which a simulation is told, and what each step of theirs leaves alone. This project's own.
+use Rattle.std.specs.Prelude.{◌≡◌, ℕ, ◌<◌, Bool, true, false, cond, drop, Option}
+use Rattle.space.specs.declared.call.End.TheVariants.{Outside}
+use Rattle.space.specs.Reports.{AnswerValue}
+use Rattle.ppc_isa.specs.declared.instr.Instr.{Instr}
+use Rattle.ppc_isa.specs.declared.map.Map.{Map}
+use Rattle.ppc_isa.specs.Map.{IsMap}
+use Rattle.ia_codec.specs.declared.op.Condition.{Condition}
+use Rattle.ia_codec.specs.Rows.{condition_holds}
+use Rattle.reg_map.specs.Home.{location_count, location_range}
+use Rattle.runs.specs.Machine.{Outcome, Goes, Asks, Ends}
+use Rattle.machines.specs.Memory.{Rights}
+use Rattle.machines.specs.Guest.{Guest, executes}
+use Rattle.machines.specs.Host.{Core, Host, value_at}
+use Rattle.machines.specs.Representation.{location_place, Represents}
+use Rattle.tiles.specs.Row.{IsCore}
+
+-- What no step changes: the rights to memory, the home page's address, the bytes that the written file lays out, both
+-- machines, where `hold` stands; for each guest address the register map under which the block there begins and the
+-- host address to which an edge leads; and which locations are live before the word at an address.
+pub record Setting : Type 0 where
+  pub guest : Rights
+  pub host : Rights
+  pub area : ℕ
+  pub image : ℕ → ℕ
+  pub guest_step : Guest → Outcome Guest
+  pub host_step : Host → Outcome Host
+  pub hold : ℕ
+  pub entry_map : ℕ → Map
+  pub target : ℕ → ℕ
+  pub live : ℕ → ℕ → Bool
+
+module _ (s : Setting) where
+  -- a code word stands at a guest address: this instruction's, or an illegal one
+  abbrev pub IsWordAt : ℕ → Option Instr → Type 0
+  IsWordAt a word = (g : Guest) → g.next ≡ a → s.guest_step g ≡ executes s.guest word g
+
+  -- no code word stands at a guest address
+  abbrev pub IsOffCode : ℕ → Type 0
+  IsOffCode a = (g : Guest) → g.next ≡ a → s.guest_step g ≡ Ends Outside
+
+  -- at a host address stands a jump, however it is spelt
+  abbrev pub JumpsTo : ℕ → ℕ → Type 0
+  JumpsTo a to = (h : Host) → h.eip ≡ a → s.host_step h ≡ Goes (record { core = h.core; eip = to; choices = drop 1 h.choices })
+
+  -- at a host address stands a jump that leads on by a condition on the flags
+  abbrev pub ForksAt : Condition → ℕ → ℕ → ℕ → Type 0
+  ForksAt c a holds fails = (h : Host) → h.eip ≡ a → s.host_step h ≡ Goes (record { core = h.core; eip = cond (condition_holds c h.core.flags) holds fails; choices = drop 1 h.choices })
+
+  -- The relation on one pair of states. The host represents the guest under the map, on what is live at the guest's next
+  -- word; each location's place has a value that the location can have; and bytes that may not be written are as the file
+  -- lays them, as those of the table, of the code and of unwritable segments.
+  pub record Stood (map : Map) (g : Guest) (core : Core) : Type 0 where
+    pub is_map : IsMap map
+    pub represents : Represents map s.area (λ x. s.live g.next x ≡ true) s.guest.held g core
+    pub in_range : (x : ℕ) → x < location_count → value_at core (location_place map s.area x) < location_range x
+    pub is_core : IsCore core
+    pub unwritten : (a : ℕ) → s.host.writable a ≡ false → core.bytes a ≡ s.image a
+
+  -- bytes that may not be written are the same in both
+  abbrev pub KeepsUnwritten : Core → Core → Type 0
+  KeepsUnwritten before after = (a : ℕ) → s.host.writable a ≡ false → after.bytes a ≡ before.bytes a
+
+  abbrev pub KeepsUnwrittenBy : Core → Outcome Host → Type 0
+  KeepsUnwrittenBy before (Goes h) = KeepsUnwritten before h.core
+  KeepsUnwrittenBy before (Asks call next) = (a : AnswerValue) → KeepsUnwritten before (next a).core
+  KeepsUnwrittenBy before (Ends e) = Unit {0}
+
+  -- the other guest is the same, but for locations that aren't live at the next word
+  pub record Alike (g other : Guest) : Type 0 where
+    pub next : other.next ≡ g.next
+    pub locs : (x : ℕ) → s.live g.next x ≡ true → other.locs x ≡ g.locs x
+    pub bytes : other.bytes ≡ g.bytes
+
+  abbrev pub AreAlike : Outcome Guest → Outcome Guest → Type 0
+  AreAlike (Goes g) (Goes other) = Alike g other
+  AreAlike (Asks call next) (Asks asked others) = (asked ≡ call) × ((a : AnswerValue) → Alike (next a) (others a))
+  AreAlike (Ends e) (Ends other) = other ≡ e
+  AreAlike _ _ = ⊥
+
+  -- What isn't live before a word makes no difference: its row has the same outcome, but for what isn't live behind it.
+  abbrev pub LiveIsEnough : Type 0
+  LiveIsEnough = (word : Option Instr) (g other : Guest) → IsWordAt g.next word → Alike g other → AreAlike (executes s.guest word g) (executes s.guest word other)

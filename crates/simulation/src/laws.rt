@@ -1,0 +1,32 @@
+//! What the relation gives. Each law is the contract of a function that does nothing.
+
+ghost use Rattle.simulation.specs.Setting.{Setting};
+ghost use Rattle.simulation.specs.Relation.{IsTranslation, MeetingIsBounded, MeetingAdvances, HoldHolds, MeetingSettles, StartAgrees};
+
+use runs::agreement;
+use std::marker::Brand;
+
+/// Each kind of step keeps the relation: a move, a tile, a tile with a branch, the tile of a flow word
+/// with its call or end, an edge, and `hold`.
+pub fn keeps_meeting()
+    ensures bounded { (s : Setting) → MeetingIsBounded s }
+    ensures advances { (s : Setting) → IsTranslation s → MeetingAdvances s }
+{}
+
+/// From `hold` the host goes on for ever and makes no call.
+pub fn hold_holds()
+    ensures { (s : Setting) → IsTranslation s → HoldHolds s }
+{}
+
+/// Behind the moves of an edge the states are in a block again, or the guest is off its code and the
+/// host at `hold`.
+pub fn settles()
+    ensures { (s : Setting) → IsTranslation s → MeetingSettles s }
+{}
+
+/// From its start a translation agrees with its program.
+pub fn agrees()
+    ensures { (s : Setting) → IsTranslation s → StartAgrees s }
+{
+    agreement::<Brand>();
+}

@@ -1,0 +1,6 @@
+//! The simulation relation between a program and its translation, over the plans of its blocks.
+#![tactic(auto)]
+
+mod laws;
+
+pub use laws::{agrees, hold_holds, keeps_meeting, settles};
