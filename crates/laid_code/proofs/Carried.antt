@@ -1,0 +1,159 @@
+-- The code of a written program carries the blocks of its words.
+use Rattle.std.proofs.Common.{◌≡◌, ℕ, ◌+◌, ◌-◌, ◌%◌, ◌^◌, ◌<◌, ◌≤◌, Bool, true, false, cond, ◌==◌, List, [], ◌∷◌, ◌++◌, length, map, filter, not, get_or, slice_index, slice_index_or, Option, ◌⊎◌, inl, inr, refl, sym, ap, ◌∙◌, subst, arith}
+use Rattle.std.proofs.lemmas.Bool.{false≢true, cases_lt, eqb-true}
+use Rattle.std.proofs.lemmas.Bool.Decides.{nat_tests}
+use Rattle.std.proofs.lemmas.List.{append-nil, get_or_default, get_or_past}
+use Rattle.std.specs.List.{range_with_len}
+use Rattle.space.specs.declared.call.End.TheVariants.{Outside}
+use Rattle.space.specs.declared.program.Program.{Program}
+use Rattle.ppc_isa.specs.declared.instr.Instr.{Instr}
+use Rattle.ia_codec.specs.Spelling.{spelling}
+use Rattle.ia_codec.specs.declared.op.Op.TheVariants.{Jmp}
+use Rattle.runs.specs.Machine.{Ends}
+use Rattle.machines.specs.Memory.{rights_of, code_of}
+use Rattle.machines.specs.Readings.{Fetched, ReadsWords, ReadsOps}
+use Rattle.machines.specs.Guest.{is_code_word, code_word, executes}
+use Rattle.simulation.specs.Setting.{Setting, IsOffCode, JumpsTo}
+use Rattle.simulation.specs.Plan.{BlockAt, Begins}
+use Rattle.code_layout.specs.Blocks.{address_of, in_block, alone, singles, code_order}
+use Rattle.code_layout.specs.Code.{no_registers, place_of, entry_of}
+use Rattle.code_layout.specs.declared.blocks.Laid.{Laid}
+use Rattle.laid_code.specs.Bytes.{HasBytes, RunsCode}
+use Rattle.laid_code.specs.Instance.{code_start, setting_of, HasWords, AreBuilt, HasCodeFor}
+use Rattle.laid_code.specs.Laws.{IsBlockOrOff, BlocksStand, HoldStands}
+use Rattle.laid_code.proofs.Decoding.{first_bytes_at, next_bytes_at, ends_low, jump_leads}
+use Rattle.laid_code.proofs.Laid.{LaidAt, laid_at, Found, leading, behind, find_leader, find_single}
+use Rattle.laid_code.proofs.Blocks.{BlockFrom, word_block, leader_block}
+
+-- where an edge to a code word leads
+pub entry_at : (first : ℕ) (table : List ℕ) (hold k : ℕ) → k < length table → entry_of first table hold (address_of first k) ≡ slice_index table k
+entry_at first table hold k lt =
+    let place : place_of first (address_of first k) ≡ k = omega arith in
+    let same : (address_of first k == address_of first k) ≡ true = grind (arith, nat_tests) in
+    rw (place, same) (get_or_default table k hold 0 lt)
+
+entry_or_hold : (first : ℕ) (table : List ℕ) (hold : ℕ) (P : ℕ → Type 0) (a : ℕ) → P hold → ((k : ℕ) → k < length table → a ≡ address_of first k → P (slice_index table k)) → P (entry_of first table hold a)
+entry_or_hold first table hold P a off on = by (a == address_of first (place_of first a)) refl
+  where
+    inner : (k : ℕ) → a ≡ address_of first k → (k < length table) ⊎ (length table ≤ k) → P (slice_index_or table k hold)
+    inner k e (inl lt) = subst P (sym (get_or_default table k hold 0 lt)) (on k lt e)
+    inner k e (inr le) = subst P (sym (get_or_past table k hold le)) off
+
+    by : (b : Bool) → (a == address_of first (place_of first a)) ≡ b → P (cond b (slice_index_or table (place_of first a) hold) hold)
+    by true e = inner (place_of first a) (eqb-true a (address_of first (place_of first a)) e) (cases_lt (place_of first a) (length table))
+    by false e = off
+
+module _ (reading : ℕ → Option Instr) (ops : List ℕ → Option Fetched) (P Q : Program) (first entry : ℕ) (words : List ℕ) (area : ℕ) (table : List ℕ) (reads_ops : ReadsOps ops) (carried : HasCodeFor Q first entry words area table) where
+  abbrev s : Setting
+  s = setting_of reading ops P Q first area table
+
+  abbrev targets : ℕ → ℕ
+  targets = entry_of first table (code_start area)
+
+  runs : RunsCode s (code_of Q) ops
+  runs = record { reads = reads_ops; low = let l = carried.low in let a = carried.at in omega (arith, l, a); steps = λ h. refl }
+
+  -- the whole code, from its start on
+  whole : HasBytes (code_of Q) (code_start area) (code_of Q).bytes
+  whole = record { before = []; behind = []; cut = sym (append-nil (code_of Q).bytes); begins = let a = carried.at in omega (arith, a) }
+
+  holding : HasBytes (code_of Q) (code_start area) (spelling (Jmp (2 ^ 32 - 5)) ++ carried.code.laid.0)
+  holding = subst (HasBytes (code_of Q) (code_start area)) carried.code.laid.1 whole
+
+  hold_low : code_start area + 5 < 2 ^ 32
+  hold_low = ends_low s (code_of Q) ops (code_start area) (spelling (Jmp (2 ^ 32 - 5))) runs (first_bytes_at (code_of Q) (code_start area) (spelling (Jmp (2 ^ 32 - 5))) carried.code.laid.0 holding)
+
+  pub hold_jumps : JumpsTo s (code_start area) (code_start area)
+  hold_jumps =
+      let low : code_start area + 5 < 2 ^ 32 = hold_low in
+      let rel : 2 ^ 32 - 5 ≡ (code_start area + (2 ^ 32 - (code_start area + 5))) % 2 ^ 32 = omega (arith, low) in
+      jump_leads s (code_of Q) ops (code_start area) (code_start area) runs (omega (arith, low)) (subst (λ (r : ℕ). HasBytes (code_of Q) (code_start area) (spelling (Jmp r))) rel (first_bytes_at (code_of Q) (code_start area) (spelling (Jmp (2 ^ 32 - 5))) carried.code.laid.0 holding))
+
+  -- all words stand behind it
+  laid : LaidAt first words area targets (code_of Q) (code_start area + 5) (code_order carried.code.leaders)
+  laid = laid_at first words area targets (code_of Q) (code_start area + 5) (code_order carried.code.leaders) carried.code.laid.0 carried.code.laid.2 (next_bytes_at (code_of Q) (code_start area) (spelling (Jmp (2 ^ 32 - 5))) carried.code.laid.0 holding)
+
+  abbrev single_places : List ℕ
+  single_places = filter (λ place. not (get_or carried.code.leaders place false)) (range_with_len 0 (length carried.code.leaders))
+
+  abbrev single_blocks : List Laid
+  single_blocks = singles carried.code.leaders (length carried.code.leaders)
+
+  found : (k : ℕ) → k < length words → Found first words area targets (code_of Q) carried.code.leaders single_blocks (length carried.code.leaders) k (slice_index table k)
+  found k lt = find_leader first words area targets (code_of Q) carried.code.leaders single_blocks (length carried.code.leaders) k (slice_index table k) (code_start area + 5) 0 (length carried.code.leaders) (omega arith) laid (carried.code.entries k lt)
+
+  -- every entry lies in the code
+  laid_low : (here : ℕ) (word : Laid) (order : List Laid) → LaidAt first words area targets (code_of Q) here (word ∷ order) → here < 2 ^ 32
+  laid_low here word order h = omega (arith, ends_low s (code_of Q) ops here _ runs h.2)
+
+  entry_low : (k : ℕ) → k < length words → slice_index table k < 2 ^ 32
+  entry_low k lt = by (found k lt)
+    where
+      by : Found first words area targets (code_of Q) carried.code.leaders single_blocks (length carried.code.leaders) k (slice_index table k) → slice_index table k < 2 ^ 32
+      by (leading more e set h) = laid_low (slice_index table k) (in_block carried.code.leaders k) (map (in_block carried.code.leaders) (range_with_len (k + 1) more) ++ single_blocks) h
+      by (behind here h begins) =
+          let one = find_single first words area targets (code_of Q) single_places k (slice_index table k) here h begins in
+          laid_low (slice_index table k) (alone k) one.0 one.1
+
+  bounded : (address : ℕ) → targets address < 2 ^ 32
+  bounded address =
+      let low : code_start area + 5 < 2 ^ 32 = hold_low in
+      let count : length table ≡ length words = carried.count in
+      entry_or_hold first table (code_start area) (λ t. t < 2 ^ 32) address (omega (arith, low)) (λ k lt e. entry_low k (omega (arith, lt, count)))
+
+  module _ (reads_words : ReadsWords reading) (has : HasWords P first words) (built : AreBuilt words) where
+    page_low : area + 4096 ≤ 2 ^ 32
+    page_low = let low : code_start area + 5 < 2 ^ 32 = hold_low in omega (arith, low)
+
+    abbrev Block : ℕ → ℕ → ℕ → Type 0
+    Block k here bound = BlockFrom reading ops P Q first entry words area table reads_words has built page_low k here bound
+
+    block_at : (k : ℕ) → k < length words → Block k (slice_index table k) (k + 64)
+    block_at k lt = by (found k lt)
+      where
+        by : Found first words area targets (code_of Q) carried.code.leaders single_blocks (length carried.code.leaders) k (slice_index table k) → Block k (slice_index table k) (k + 64)
+        by (leading more e set h) =
+            let count : length carried.code.leaders ≡ length words = carried.code.count in
+            leader_block reading ops P Q first entry words area table reads_words has built page_low runs bounded carried.code.leaders count carried.code.each single_blocks k more k (slice_index table k) lt set (e ∙ count) (omega arith) (λ i low high. absurd (omega (arith, low, high))) h
+        by (behind here h begins) =
+            let one = find_single first words area targets (code_of Q) single_places k (slice_index table k) here h begins in
+            word_block reading ops P Q first entry words area table reads_words has built page_low runs bounded (alone k) one.0 (slice_index table k) (k + 64) lt (omega arith) one.1 (λ inner. absurd (false≢true (sym inner)))
+
+    begins : (k : ℕ) → k < length words → Begins s (address_of first k)
+    begins k lt =
+        let b = block_at k lt in
+        let count : length table ≡ length words = carried.count in
+        let here : slice_index table k ≡ targets (address_of first k) = sym (entry_at first table (code_start area) k (omega (arith, lt, count))) in
+        record {
+          steps = b.steps;
+          stands = subst (λ (a : ℕ). BlockAt s no_registers (address_of first k) a b.steps) here b.stands;
+          in_block = let c = b.count in omega (arith, c);
+          few = b.few;
+          few_first = let f = b.begins_few in omega (arith, f);
+        }
+
+    off_code : (w : ℕ) → is_code_word (code_of P) w ≡ false → IsOffCode s w
+    off_code w off g at =
+        ap (λ (a : ℕ). cond (is_code_word (code_of P) a) (executes (rights_of P) (reading (code_word (code_of P) a)) g) (Ends Outside)) at
+        ∙ ap (λ (b : Bool). cond b (executes (rights_of P) (reading (code_word (code_of P) w)) g) (Ends Outside)) off
+
+    to_hold : (w : ℕ) → is_code_word (code_of P) w ≡ false → targets w ≡ code_start area
+    to_hold w off =
+        let count : length table ≡ length words = carried.count in
+        entry_or_hold first table (code_start area) (λ t. t ≡ code_start area) w refl
+        (λ k lt e. absurd (false≢true (sym off ∙ ap (λ (a : ℕ). is_code_word (code_of P) a) e ∙ has.here k (omega (arith, lt, count)))))
+
+    pub blocks_at : (w : ℕ) → IsBlockOrOff s w
+    blocks_at w = by (is_code_word (code_of P) w) refl
+      where
+        by : (b : Bool) → is_code_word (code_of P) w ≡ b → IsBlockOrOff s w
+        by true on =
+            let k = has.only w on in
+            inl (subst (Begins s) (sym k.2) (begins k.0 k.1))
+        by false off = inr (off_code w off, to_hold w off)
+
+pub blocks_stand : BlocksStand
+blocks_stand reading ops P Q first entry words area table reads_words reads_ops has built carried w = blocks_at reading ops P Q first entry words area table reads_ops carried reads_words has built w
+
+pub hold_stands : HoldStands
+hold_stands reading ops P Q first entry words area table reads_ops carried = hold_jumps reading ops P Q first entry words area table reads_ops carried

@@ -1,0 +1,88 @@
+-- Items have as many bytes as their lengths say, wherever they stand.
+use Rattle.std.proofs.Common.{◌≡◌, ℕ, suc, ◌+◌, ◌≤◌, Bool, true, false, cond, List, [], ◌∷◌, ◌++◌, length, Option, Some, None, refl, sym, ap, ◌∙◌, arith, length-append}
+use Rattle.ia_codec.specs.Spelling.{spelling, modrm, dword, alu_number, shift_number, unary_number}
+use Rattle.ia_codec.specs.declared.op.Operand.{Operand}
+use Rattle.ia_codec.specs.declared.op.Operand.TheVariants.{Reg, Abs, Base, Pair}
+use Rattle.ia_codec.specs.declared.op.Condition.{Condition}
+use Rattle.ia_codec.specs.declared.op.Op.{Op}
+use Rattle.ia_codec.specs.declared.op.Op.TheVariants.{AluTo, AluFrom, AluImm, TestReg, TestImm, Unary, Imul, MovTo, MovFrom, MovImm, MovToImm, MovHalfTo, MovByteTo, MovByteFrom, Shift, ShiftByCl, Lea, Extend, Bswap, Set, Cmov, Bsr, Cdq, Jcc, Jmp, JmpTo, Int80, Int3, Ud2}
+use Rattle.base_flow.specs.declared.flow_op.FlowOp.{FlowOp}
+use Rattle.base_flow.specs.declared.flow_op.FlowOp.TheVariants.{Plain, Jump, Mark, Edge, Leap}
+use Rattle.code_layout.specs.Code.{operand_at, op_at, jump_on, item_length, items_length, is_mark, before_mark, item_bytes, items_bytes}
+
+one : (area n : ℕ) (m : Operand) → length (modrm n (operand_at area m)) ≡ length (modrm n m)
+one area n (Reg m) = refl
+one area n (Abs d) = refl
+one area n (Base b d) = refl
+one area n (Pair b x s d) = refl
+
+-- with an immediate behind the operand
+with : (area n : ℕ) (m : Operand) (imm : List ℕ) → length (modrm n (operand_at area m) ++ imm) ≡ length (modrm n m ++ imm)
+with area n m imm = length-append (modrm n (operand_at area m)) imm ∙ ap (λ k. k + length imm) (one area n m) ∙ sym (length-append (modrm n m) imm)
+
+after_one : (x y : List ℕ) → length x ≡ length y → 1 + length x ≡ 1 + length y
+after_one x y e = omega arith
+
+after_two : (x y : List ℕ) → length x ≡ length y → 2 + length x ≡ 2 + length y
+after_two x y e = omega arith
+
+-- where the home page stands changes no op's length
+pub placed_length : (area : ℕ) (op : Op) → length (spelling (op_at area op)) ≡ length (spelling op)
+placed_length area (AluTo op to from) = ap suc (one area from to)
+placed_length area (AluFrom op to from) = ap suc (one area to from)
+placed_length area (AluImm op to imm) = ap suc (with area (alu_number op) to (dword imm))
+placed_length area (TestReg a b) = ap suc (one area b a)
+placed_length area (TestImm a imm) = ap suc (with area 0 a (dword imm))
+placed_length area (Unary op on) = ap suc (one area (unary_number op) on)
+placed_length area (Imul to from) = ap (λ k. suc (suc k)) (one area to from)
+placed_length area (MovTo to from) = ap suc (one area from to)
+placed_length area (MovFrom to from) = ap suc (one area to from)
+placed_length area (MovImm to imm) = refl
+placed_length area (MovToImm to imm) = ap suc (with area 0 to (dword imm))
+placed_length area (MovHalfTo to from) = ap (λ k. suc (suc k)) (one area from to)
+placed_length area (MovByteTo to from) = ap suc (one area from to)
+placed_length area (MovByteFrom to from) = ap suc (one area to from)
+placed_length area (Shift op to by) = ap suc (with area (shift_number op) to (by ∷ []))
+placed_length area (ShiftByCl op to) = ap suc (one area (shift_number op) to)
+placed_length area (Lea to from) = ap suc (one area to from)
+placed_length area (Extend op to from) = ap (λ k. suc (suc k)) (one area to from)
+placed_length area (Bswap reg) = refl
+placed_length area (Set condition to) = ap (λ k. suc (suc k)) (one area 0 to)
+placed_length area (Cmov condition to from) = ap (λ k. suc (suc k)) (one area to from)
+placed_length area (Bsr to from) = ap (λ k. suc (suc k)) (one area to from)
+placed_length area Cdq = refl
+placed_length area (Jcc condition rel) = refl
+placed_length area (Jmp rel) = refl
+placed_length area (JmpTo to) = ap suc (one area 4 to)
+placed_length area Int80 = refl
+placed_length area Int3 = refl
+placed_length area Ud2 = refl
+
+-- how far a jump leads changes no jump's length
+far : (o : Option Condition) (rel : ℕ) → length (spelling (jump_on o rel)) ≡ length (spelling (jump_on o 0))
+far (Some c) rel = refl
+far None rel = refl
+
+pub one_length : (area : ℕ) (targets : ℕ → ℕ) (here : ℕ) (item : FlowOp) (rest : List FlowOp) → length (item_bytes area targets here item rest) ≡ item_length item
+one_length area targets here (Plain op) rest = placed_length area op
+one_length area targets here (Jump code mark) rest = far _ (before_mark rest mark)
+one_length area targets here (Mark mark) rest = refl
+one_length area targets here (Edge address) rest = refl
+one_length area targets here Leap rest = refl
+
+pub bytes_length : (area : ℕ) (targets : ℕ → ℕ) (here : ℕ) (items : List FlowOp) → length (items_bytes area targets here items) ≡ items_length items
+unfolding items_bytes items_length
+bytes_length area targets here [] = refl
+bytes_length area targets here (item ∷ rest) =
+    length-append (item_bytes area targets here item rest) _
+    ∙ ap (λ k. k + length (items_bytes area targets (here + item_length item) rest)) (one_length area targets here item rest)
+    ∙ ap (λ k. item_length item + k) (bytes_length area targets (here + item_length item) rest)
+
+by_mark : (b : Bool) (n m whole : ℕ) → m ≤ whole → cond b 0 (n + m) ≤ n + whole
+by_mark true n m whole le = omega arith
+by_mark false n m whole le = omega arith
+
+pub mark_within : (items : List FlowOp) (mark : ℕ) → before_mark items mark ≤ items_length items
+unfolding before_mark items_length
+mark_within [] mark = omega arith
+mark_within (item ∷ rest) mark = by_mark (is_mark item mark) (item_length item) (before_mark rest mark) (items_length rest) (mark_within rest mark)

@@ -1,0 +1,9 @@
+pub mod Decoding
+pub mod Lengths
+pub mod Items
+pub mod Marks
+pub mod Laid
+pub mod Rows
+pub mod Blocks
+pub mod Cut
+pub mod Carried

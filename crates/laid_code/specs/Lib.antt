@@ -1,0 +1,4 @@
+pub mod Bytes
+pub mod Items
+pub mod Instance
+pub mod Laws

@@ -1,0 +1,29 @@
+//! What the bytes of the code carry. Each law is the contract of a function that does nothing.
+
+ghost use Rattle.laid_code.specs.Laws.{SpellingsStand, JumpsLead, ItemsStand, BlocksStand, HoldStands};
+
+/// Where the spelling of an op stands in the code, the op stands.
+pub fn spellings_stand()
+    ensures { SpellingsStand }
+{}
+
+/// A jump leads to the target that its bytes were made for.
+pub fn jumps_lead()
+    ensures { JumpsLead }
+{}
+
+/// Where the bytes of items stand the items stand, and their edges lead to their targets.
+pub fn items_stand()
+    ensures { ItemsStand }
+{}
+
+/// At each code word of a program the block of its plan stands in the written code, and edges to other
+/// addresses lead to `hold`.
+pub fn blocks_stand()
+    ensures { BlocksStand }
+{}
+
+/// `hold` is a jump to itself.
+pub fn hold_stands()
+    ensures { HoldStands }
+{}

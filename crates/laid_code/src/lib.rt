@@ -1,0 +1,6 @@
+//! The code segment of a written file carries the plans of its program's blocks.
+#![tactic(auto)]
+
+mod laws;
+
+pub use laws::{blocks_stand, hold_stands, items_stand, jumps_lead, spellings_stand};
