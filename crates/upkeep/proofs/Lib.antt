@@ -1,0 +1,7 @@
+pub mod Unwritten
+pub mod Alikes
+pub mod Loaded
+pub mod Memory
+pub mod Page
+pub mod InPlace
+pub mod Beginning

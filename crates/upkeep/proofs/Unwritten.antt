@@ -1,0 +1,196 @@
+-- A step of the host keeps the bytes that may not be written.
+use Rattle.std.proofs.Common.{◌≡◌, ℕ, zero, suc, ◌+◌, ◌/◌, ◌%◌, ◌^◌, ◌≤◌, min, Bool, true, false, cond, ◌||◌, eqb, List, [], ◌∷◌, length, take, Option, Some, None, refl, sym, ap, ◌∙◌, subst, arith}
+use Rattle.std.proofs.lemmas.List.{length-take-le}
+use Rattle.space.specs.Reports.{Read, Write, Close, AnswerValue, Got, Took, Error, Given, Gives, Fails, given}
+use Rattle.space.specs.declared.call.End.TheVariants.{Outside, Exit}
+use Rattle.runs.specs.Machine.{Outcome, Goes, Asks, Ends}
+use Rattle.ia_codec.specs.declared.op.Op.{Op}
+use Rattle.ia_codec.specs.declared.op.Op.TheVariants.{AluTo, AluFrom, AluImm, Unary, MovTo, MovFrom, MovImm, MovByteTo, Extend, Jcc, Jmp, Int80, Int3, Ud2}
+use Rattle.ia_codec.specs.declared.op.UnaryOp.TheVariants.{Neg}
+use Rattle.ia_codec.specs.declared.op.ExtendOp.TheVariants.{MovzxByte}
+use Rattle.ia_codec.specs.Effect.{HostEffect}
+use Rattle.ia_codec.specs.Rows.{host_row}
+use Rattle.reg_map.specs.Registers.{eax, ecx, edx, ebx}
+use Rattle.machines.specs.Memory.{update, store, block, put_block, each_byte, Rights, is_code}
+use Rattle.machines.specs.Readings.{Fetched}
+use Rattle.machines.specs.Host.{Choice, Core, Host, Place, Register, Memory, place_of, choice_at, has_result, bind, values_of, reads, puts, put_at, leaves, gives_to, changes, sets, does, goes_to, plain, jumps, after_given, asks, system_call, acts, executes, op_bytes, host_step}
+use Rattle.machines.proofs.Tests.{first_of_both, second_of_both}
+use Rattle.tiles.proofs.Memory.{update_other}
+use Rattle.simulation.specs.Setting.{Setting, KeepsUnwrittenBy}
+use Rattle.upkeep.specs.Steps.{KeepsUnwritten, StepKeepsUnwritten, HostKeepsUnwritten, SettingKeepsUnwritten}
+
+clash : (b : Bool) → b ≡ true → b ≡ false → ⊥
+clash true p q = cc
+clash false p q = cc
+
+-- a byte that fails the test isn't at an address that passes it
+module _ (test : ℕ → Bool) (x : ℕ) (off : test x ≡ false) where
+  elsewhere : (a : ℕ) → test a ≡ true → x ≡ a → ⊥
+  elsewhere a on e = clash (test a) on (ap test (sym e) ∙ off)
+
+  store_keeps : (n a v : ℕ) (bytes : ℕ → ℕ) → each_byte test n a ≡ true → store n a v bytes x ≡ bytes x
+  unfolding store each_byte
+  store_keeps zero a v bytes each = refl
+  store_keeps (suc n) a v bytes each =
+      let here : test (a % 2 ^ 32) ≡ true = first_of_both (test (a % 2 ^ 32)) (each_byte test n (a + 1)) each in
+      let rest : each_byte test n (a + 1) ≡ true = second_of_both (test (a % 2 ^ 32)) (each_byte test n (a + 1)) each in
+      store_keeps n (a + 1) (v / 256) (update bytes (a % 2 ^ 32) (v % 256)) rest ∙ update_other bytes (a % 2 ^ 32) (v % 256) x (elsewhere (a % 2 ^ 32) here)
+
+  -- as many bytes as were tested, or fewer
+  put_keeps : (bs : List ℕ) (n a : ℕ) (bytes : ℕ → ℕ) → length bs ≤ n → each_byte test n a ≡ true → put_block a bs bytes x ≡ bytes x
+  unfolding put_block each_byte
+  put_keeps [] n a bytes le each = refl
+  put_keeps (b ∷ bs) zero a bytes le each = absurd (omega arith)
+  put_keeps (b ∷ bs) (suc n) a bytes le each =
+      let here : test (a % 2 ^ 32) ≡ true = first_of_both (test (a % 2 ^ 32)) (each_byte test n (a + 1)) each in
+      let rest : each_byte test n (a + 1) ≡ true = second_of_both (test (a % 2 ^ 32)) (each_byte test n (a + 1)) each in
+      put_keeps bs n (a + 1) (update bytes (a % 2 ^ 32) (b % 256)) (omega arith) rest ∙ update_other bytes (a % 2 ^ 32) (b % 256) x (elsewhere (a % 2 ^ 32) here)
+
+-- what an answer puts into a buffer is no longer than the call's count
+abbrev IsNoLonger : ℕ → Given → Type 0
+IsNoLonger count (Gives result to_buffer) = length to_buffer ≤ count
+IsNoLonger count (Fails error) = Unit {0}
+
+read_gives : (fd count : ℕ) (a : AnswerValue) → IsNoLonger count (given (Read fd count) a)
+read_gives fd count (Got bytes) =
+    let e : length (take (min (length bytes) count) bytes) ≡ min (length bytes) count = length-take-le (min (length bytes) count) bytes (omega arith) in
+    omega (arith, e)
+read_gives fd count (Took taken) = omega arith
+read_gives fd count (Error code) = tt
+
+write_gives : (fd : ℕ) (bytes : List ℕ) (a : AnswerValue) → IsNoLonger 0 (given (Write fd bytes) a)
+write_gives fd bytes (Got got) = omega arith
+write_gives fd bytes (Took taken) = omega arith
+write_gives fd bytes (Error code) = tt
+
+close_gives : (fd : ℕ) (a : AnswerValue) → IsNoLonger 0 (given (Close fd) a)
+close_gives fd (Got got) = omega arith
+close_gives fd (Took taken) = omega arith
+close_gives fd (Error code) = tt
+
+module _ (rights : Rights) where
+  abbrev Keeps : Core → Option Core → Type 0
+  Keeps before None = Unit {0}
+  Keeps before (Some after) = KeepsUnwritten rights before after
+
+  puts_keep : (core : Core) (place : Place) (v : ℕ) → Keeps core (puts rights core place v)
+  puts_keep core (Register r) v = λ a off. refl
+  puts_keep core (Memory size address) v = by_test (each_byte rights.writable size address) refl
+    where
+      by_test : (b : Bool) → each_byte rights.writable size address ≡ b → Keeps core (cond b (Some (put_at core (Memory size address) v)) None)
+      by_test true e = λ a off. store_keeps rights.writable a off size address v core.bytes e
+      by_test false e = tt
+
+  leaves_keep : (result : Bool) (e : HostEffect) (place : Place) (core : Core) → Keeps core (leaves rights result e place core)
+  leaves_keep true e place core = puts_keep (record core { flags = e.flags }) place e.result
+  leaves_keep false e place core = λ a off. refl
+
+  gives_keep : (op : Op) (c : Choice) (result : Bool) (place : Place) (core : Core) (x y : ℕ) → Keeps core (gives_to rights op c result place core x y)
+  gives_keep op c result place core x y = leaves_keep result (host_row op (values_of c core x y)) place core
+
+  bind_keeps : (core : Core) (x : Option ℕ) (f : ℕ → Option Core) → ((v : ℕ) → Keeps core (f v)) → Keeps core (bind x f)
+  bind_keeps core None f keeps = tt
+  bind_keeps core (Some v) f keeps = keeps v
+
+  changes_keep : (op : Op) (c : Choice) (result : Bool) (place : Place) (core : Core) (y : Option ℕ) → Keeps core (changes rights op c result place core y)
+  changes_keep op c result place core y =
+      bind_keeps core (reads rights core place) (λ x. bind y (gives_to rights op c result place core x)) (λ x.
+      bind_keeps core y (gives_to rights op c result place core x) (gives_keep op c result place core x))
+
+  sets_keep : (op : Op) (c : Choice) (place : Place) (core : Core) (y : Option ℕ) → Keeps core (sets rights op c place core y)
+  sets_keep op c place core y = bind_keeps core y (gives_to rights op c true place core 0) (gives_keep op c true place core 0)
+
+  goes_keep : (next : ℕ) (h : Host) (o : Option Core) → Keeps h.core o → StepKeepsUnwritten rights h.core (goes_to rights next h o)
+  goes_keep next h None keeps = tt
+  goes_keep next h (Some core) keeps = keeps
+
+  given_keeps : (next n : ℕ) (h : Host) (g : Given) → IsNoLonger n g → each_byte rights.writable n (h.core.regs ecx) ≡ true → KeepsUnwritten rights h.core (after_given rights next g h).core
+  given_keeps next n h (Gives result to_buffer) le each = λ a off. put_keeps rights.writable a off to_buffer n (h.core.regs ecx) h.core.bytes le each
+  given_keeps next n h (Fails error) le each = λ a off. refl
+
+  none_tested : (a : ℕ) → each_byte rights.writable 0 a ≡ true
+  unfolding each_byte
+  none_tested a = refl
+
+  module _ (next : ℕ) (h : Host) where
+    abbrev count : ℕ
+    count = h.core.regs edx
+
+    abbrev buffer : ℕ
+    buffer = h.core.regs ecx
+
+    abbrev closing : Bool → Outcome Host
+    closing b = cond b (asks rights (Close (h.core.regs ebx)) next h) (Goes (after_given rights next (Fails 38) h))
+
+    abbrev writing : Bool → Bool → Bool → Outcome Host
+    writing b held rest = cond b (cond held (asks rights (Write (h.core.regs ebx) (block count buffer h.core.bytes)) next h) (Ends Outside)) (closing rest)
+
+    abbrev reading : Bool → Bool → Bool → Bool → Bool → Outcome Host
+    reading b writable rest held last = cond b (cond writable (asks rights (Read (h.core.regs ebx) count) next h) (Ends Outside)) (writing rest held last)
+
+    by_close : (b : Bool) → StepKeepsUnwritten rights h.core (closing b)
+    by_close true = λ a. given_keeps next 0 h (given (Close (h.core.regs ebx)) a) (close_gives (h.core.regs ebx) a) (none_tested buffer)
+    by_close false = λ a off. refl
+
+    by_write : (b held rest : Bool) → StepKeepsUnwritten rights h.core (writing b held rest)
+    by_write true true rest = λ a. given_keeps next 0 h (given (Write (h.core.regs ebx) (block count buffer h.core.bytes)) a) (write_gives (h.core.regs ebx) (block count buffer h.core.bytes) a) (none_tested buffer)
+    by_write true false rest = tt
+    by_write false held rest = by_close rest
+
+    by_read : (b writable rest held last : Bool) → each_byte rights.writable count buffer ≡ writable → StepKeepsUnwritten rights h.core (reading b writable rest held last)
+    by_read true true rest held last e = λ a. given_keeps next count h (given (Read (h.core.regs ebx) count) a) (read_gives (h.core.regs ebx) count a) e
+    by_read true false rest held last e = tt
+    by_read false writable rest held last e = by_write rest held last
+
+    by_exit : (b number writable rest held last : Bool) → each_byte rights.writable count buffer ≡ writable → StepKeepsUnwritten rights h.core (cond b (Ends (Exit (h.core.regs ebx))) (reading number writable rest held last))
+    by_exit true number writable rest held last e = tt
+    by_exit false number writable rest held last e = by_read number writable rest held last e
+
+    system_keeps : StepKeepsUnwritten rights h.core (system_call rights next h)
+    system_keeps = by_exit (eqb (h.core.regs eax) 1 || eqb (h.core.regs eax) 252) (eqb (h.core.regs eax) 3) (each_byte rights.writable count buffer) (eqb (h.core.regs eax) 4) (each_byte rights.held count buffer) (eqb (h.core.regs eax) 6) refl
+
+  jumps_keep : (op : Op) (rel next : ℕ) (h : Host) → StepKeepsUnwritten rights h.core (jumps rights op rel next h)
+  jumps_keep op rel next h = λ a off. refl
+
+  abbrev first : Host → Choice
+  first h = choice_at h.choices 0
+
+  plain_keeps : (op : Op) (next : ℕ) (h : Host) → Keeps h.core (does rights op (first h) h.core) → StepKeepsUnwritten rights h.core (plain rights op next h)
+  plain_keeps op next h keeps = goes_keep next h (does rights op (first h) h.core) keeps
+
+  acts_keep : (op : Op) (next : ℕ) (h : Host) → StepKeepsUnwritten rights h.core (acts rights op next h)
+  acts_keep (AluTo op to from) next h = plain_keeps (AluTo op to from) next h (changes_keep (AluTo op to from) (first h) (has_result op) (place_of 4 to h.core.regs) h.core (Some (h.core.regs from)))
+  acts_keep (AluFrom op to from) next h = plain_keeps (AluFrom op to from) next h (changes_keep (AluFrom op to from) (first h) (has_result op) (Register to) h.core (reads rights h.core (place_of 4 from h.core.regs)))
+  acts_keep (AluImm op to imm) next h = plain_keeps (AluImm op to imm) next h (changes_keep (AluImm op to imm) (first h) (has_result op) (place_of 4 to h.core.regs) h.core (Some imm))
+  acts_keep (Unary Neg on) next h = plain_keeps (Unary Neg on) next h (sets_keep (Unary Neg on) (first h) (place_of 4 on h.core.regs) h.core (reads rights h.core (place_of 4 on h.core.regs)))
+  acts_keep (MovTo to from) next h = plain_keeps (MovTo to from) next h (sets_keep (MovTo to from) (first h) (place_of 4 to h.core.regs) h.core (Some (h.core.regs from)))
+  acts_keep (MovFrom to from) next h = plain_keeps (MovFrom to from) next h (sets_keep (MovFrom to from) (first h) (Register to) h.core (reads rights h.core (place_of 4 from h.core.regs)))
+  acts_keep (MovImm to imm) next h = plain_keeps (MovImm to imm) next h (sets_keep (MovImm to imm) (first h) (Register to) h.core (Some imm))
+  acts_keep (MovByteTo to from) next h = plain_keeps (MovByteTo to from) next h (sets_keep (MovByteTo to from) (first h) (place_of 1 to h.core.regs) h.core (Some (h.core.regs from)))
+  acts_keep (Extend MovzxByte to from) next h = plain_keeps (Extend MovzxByte to from) next h (sets_keep (Extend MovzxByte to from) (first h) (Register to) h.core (reads rights h.core (place_of 1 from h.core.regs)))
+  acts_keep (Jcc condition rel) next h = jumps_keep (Jcc condition rel) rel next h
+  acts_keep (Jmp rel) next h = jumps_keep (Jmp rel) rel next h
+  acts_keep Int80 next h = system_keeps next h
+  acts_keep Int3 next h = tt
+  acts_keep Ud2 next h = tt
+  acts_keep _ next h = tt
+
+  executes_keep : (f : Option Fetched) (h : Host) → StepKeepsUnwritten rights h.core (executes rights f h)
+  executes_keep None h = tt
+  executes_keep (Some f) h = acts_keep f.op ((h.eip + f.len) % 2 ^ 32) h
+
+pub host_keeps : HostKeepsUnwritten
+host_keeps rights code reading h = by_code (is_code code h.eip)
+  where
+    by_code : (b : Bool) → StepKeepsUnwritten rights h.core (cond b (executes rights (reading (op_bytes code h.eip)) h) (Ends Outside))
+    by_code true = executes_keep rights (reading (op_bytes code h.eip)) h
+    by_code false = tt
+
+-- the relation's own words
+in_setting : (s : Setting) (before : Core) (o : Outcome Host) → StepKeepsUnwritten s.host before o → KeepsUnwrittenBy s before o
+in_setting s before (Goes h) keeps = keeps
+in_setting s before (Asks call next) keeps = keeps
+in_setting s before (Ends e) keeps = tt
+
+pub setting_keeps : SettingKeepsUnwritten
+setting_keeps s code reading is h = subst (KeepsUnwrittenBy s h.core) (sym (is h)) (in_setting s h.core (host_step s.host code reading h) (host_keeps s.host code reading h))

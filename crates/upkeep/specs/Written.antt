@@ -1,0 +1,84 @@
+-- What a written file lays out in memory, and where a run of it begins. This project's own.
+use Rattle.std.specs.Prelude.{◌≡◌, ℕ, ◌+◌, ◌<◌, ◌≤◌, true, false, List, [], ◌∷◌, ◌++◌, length, map, get_or}
+use Rattle.space.specs.declared.program.Program.{Program}
+use Rattle.space.specs.declared.program.Segment.{Segment}
+use Rattle.elf_load.specs.Area.{IsArea}
+use Rattle.machines.specs.Memory.{Rights, Code, rights_of, code_of, first_bytes}
+use Rattle.machines.specs.Guest.{guest_start}
+use Rattle.machines.specs.Host.{Choice, host_start}
+use Rattle.machines.specs.Agreement.{without}
+use Rattle.machines.specs.Representation.{IsHomePage, HasSegments}
+use Rattle.tiles.specs.Flow.{WritesHeld}
+use Rattle.code_layout.specs.Code.{no_registers}
+use Rattle.elf_emit.specs.Translation.{home_page}
+use Rattle.simulation.specs.Setting.{Setting}
+use Rattle.simulation.specs.Relation.{Starts}
+use Rattle.upkeep.specs.Loaded.{AreBytes, HaveBytes}
+
+-- a segment of the source in the written file: nothing of it is run
+abbrev pub as_data : Segment → Segment
+as_data s = record { at = s.at; write = s.write; exec = false; bytes = s.bytes }
+
+abbrev pub home_segment : ℕ → Segment
+home_segment area = record { at = area; write = true; exec = false; bytes = home_page }
+
+abbrev pub table_segment : ℕ → List ℕ → Segment
+table_segment area table = record { at = area + 0x1000; write = false; exec = false; bytes = table }
+
+abbrev pub code_segment : ℕ → List ℕ → Segment
+code_segment area code = record { at = area + 0x81000; write = false; exec = true; bytes = code }
+
+-- in the order of the headers: the source's, its stack last, then home, table and code in the host area
+abbrev pub written_segments : Program → ℕ → List ℕ → List ℕ → List Segment
+written_segments P area table code = map as_data P.segments ++ (home_segment area ∷ table_segment area table ∷ code_segment area code ∷ [])
+
+-- Q has what is written for P with these bytes of table and code. The table ends before the code, and the code in the area.
+pub record IsWritten (P : Program) (area : ℕ) (table code : List ℕ) (Q : Program) : Type 0 where
+  pub segments : Q.segments ≡ written_segments P area table code
+  pub place : Q.code ≡ length P.segments + 2
+  pub table_fits : length table ≤ 0x80000
+  pub code_fits : 0x81000 + length code ≤ 0x0A000000
+
+-- what the host may read and write, where its own code is no data
+abbrev pub narrow_rights : Program → Rights
+narrow_rights Q = without (code_of Q) (rights_of Q)
+
+abbrev pub host_code : ℕ → List ℕ → Code
+host_code area code = record { at = area + 0x81000; bytes = code }
+
+-- The host has the source's memory and, apart from it, the home page; the table and the code stand where they are written,
+-- and this code is what it runs.
+pub record IsInPlace (P : Program) (area : ℕ) (table code : List ℕ) (Q : Program) : Type 0 where
+  pub page : IsHomePage area (rights_of P) (narrow_rights Q)
+  pub segments : HasSegments (rights_of P) (narrow_rights Q)
+  pub writes_held : WritesHeld (rights_of P)
+  pub table_stands : (k : ℕ) → k < length table → first_bytes Q.segments (area + 0x1000 + k) ≡ get_or table k 0
+  pub code_stands : (k : ℕ) → k < length code → first_bytes Q.segments (area + 0x81000 + k) ≡ get_or code k 0
+  pub code_is : code_of Q ≡ host_code area code
+
+abbrev pub WrittenIsInPlace : Type 0
+WrittenIsInPlace =
+    (P Q : Program) (area : ℕ) (table code : List ℕ) → IsArea P.segments area → IsWritten P area table code Q →
+    IsInPlace P area table code Q
+
+-- A setting of the simulation with the memory of Q. Blocks begin with no register held, and the run of Q where the edges
+-- to P's first word lead.
+pub record IsSettingOf (P Q : Program) (area : ℕ) (s : Setting) : Type 0 where
+  pub guest : s.guest ≡ rights_of P
+  pub area_is : s.area ≡ area
+  pub image : s.image ≡ first_bytes Q.segments
+  pub entry_map : (w : ℕ) → s.entry_map w ≡ no_registers
+  pub entry : Q.entry ≡ s.target P.entry
+
+-- all that is written is bytes, where the source's segments, the table and the code are
+abbrev pub WrittenHasBytes : Type 0
+WrittenHasBytes =
+    (P Q : Program) (area : ℕ) (table code : List ℕ) → IsWritten P area table code Q →
+    HaveBytes P.segments → AreBytes table → AreBytes code → HaveBytes Q.segments
+
+-- whatever the processor chooses, the simulation holds at the start
+abbrev pub WrittenStarts : Type 0
+WrittenStarts =
+    (P Q : Program) (area : ℕ) (table code : List ℕ) (s : Setting) (choices : List Choice) →
+    IsArea P.segments area → IsWritten P area table code Q → HaveBytes Q.segments → IsSettingOf P Q area s →
+    Starts s (guest_start P) (host_start Q choices)

@@ -1,0 +1,39 @@
+//! Laws of a translation's machines and memory. Each is the contract of a function that does nothing.
+
+ghost use Rattle.upkeep.specs.Loaded.{LoadedAreApart, LoadedAreLow, LoadedHaveBytes};
+ghost use Rattle.upkeep.specs.Written.{WrittenIsInPlace, WrittenHasBytes, WrittenStarts};
+ghost use Rattle.upkeep.specs.Steps.{HostKeepsUnwritten, SettingKeepsUnwritten, AllLiveIsEnough};
+
+/// No step of the host, with any rights, changes a byte that may not be written, whatever the answer to
+/// its call.
+pub fn host_keeps_unwritten()
+    ensures step { HostKeepsUnwritten }
+    ensures setting { SettingKeepsUnwritten }
+{}
+
+/// Where every location is live, what isn't live makes no difference.
+pub fn all_live_is_enough()
+    ensures { AllLiveIsEnough }
+{}
+
+/// No address lies in two segments of an accepted file. Each ends at 0xC0000000 or below, and is made of
+/// bytes where the file is.
+pub fn segments_are_apart()
+    ensures apart { LoadedAreApart }
+    ensures low { LoadedAreLow }
+    ensures bytes { LoadedHaveBytes }
+{}
+
+/// A written file has the memory of its source and, apart from it, a home page that may be read and
+/// written; the table and the code stand where they are written, and it runs this code.
+pub fn has_home()
+    ensures { WrittenIsInPlace }
+{}
+
+/// All that is written is bytes. At the start, whatever the processor chooses, every location's value is
+/// at its home, the source's segments have the source's bytes, and the host stands where the edges to the
+/// first word lead.
+pub fn starts()
+    ensures bytes { WrittenHasBytes }
+    ensures start { WrittenStarts }
+{}
