@@ -1,0 +1,42 @@
+-- What a file carries that is written for a program. This project's own.
+use Rattle.std.specs.Prelude.{◌≡◌, ℕ, ◌+◌, ◌*◌, ◌<◌, List, length, slice_index}
+use Rattle.space.specs.declared.program.Kind.TheVariants.{Ia32}
+use Rattle.space.specs.declared.program.Program.{Program}
+use Rattle.branch_table.specs.declared.code.Code.{Code}
+use Rattle.elf_load.specs.Area.{IsArea}
+use Rattle.elf_load.specs.Faults.{IsProgramOf}
+use Rattle.elf_emit.specs.File.{elf_file}
+use Rattle.elf_emit.specs.Translation.{FitsArea, file_segments, translated}
+use Rattle.machines.specs.Files.{Agrees}
+use Rattle.code_layout.specs.Layout.{IsCodeFor}
+use Rattle.code_words.specs.Words.{HasWords, first_of}
+use Rattle.laid_code.specs.Instance.{AreBuilt}
+use Rattle.upkeep.specs.Loaded.{AreBytes}
+
+-- The code that is laid out for a program over a host area: the block of each of its code words with the table of where
+-- they stand, and the table's word of the one at which the program begins.
+pub record IsLaidFor (P : Program) (area : ℕ) (code : Code) : Type 0 where
+  pub words : List ℕ
+  pub entry : ℕ
+  pub has : HasWords P (first_of P) words
+  pub built : AreBuilt words
+  pub begins : P.entry ≡ first_of P + 4 * entry
+  pub within : entry < length words
+  pub blocks : IsCodeFor (first_of P) entry words area code.entries code.bytes
+  pub count : length code.entries ≡ length words
+  pub start : code.start ≡ slice_index code.entries entry
+  pub fits : FitsArea code
+
+-- The file carries a program's translation: byte for byte it is the program's segments, and in a host area beside them
+-- the home page, the table and the code that is laid out for the program; and it is loaded so.
+pub record Carries (P : Program) (file : List ℕ) : Type 0 where
+  pub area : ℕ
+  pub code : Code
+  pub in_area : IsArea P.segments area
+  pub laid : IsLaidFor P area code
+  pub whole : file ≡ elf_file code.start (file_segments P code area)
+  pub loaded : IsProgramOf Ia32 file (translated P code area)
+
+-- A file that carries a program's translation agrees with the program.
+abbrev pub CarryingAgrees : Type 0
+CarryingAgrees = (P : Program) (file : List ℕ) → AreBytes file → Carries P file → Agrees P file
