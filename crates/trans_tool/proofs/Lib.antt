@@ -1,3 +1,4 @@
-pub mod Three
+pub mod Lists
 pub mod Coming
-pub mod Refusing
+pub mod Answering
+pub mod Completing

@@ -1,6 +1,8 @@
 pub mod Words
 pub mod Whole
-pub mod Plain
 pub mod Lines
+pub mod Seen
 pub mod Translate
+pub mod Listing
+pub mod Due
 pub mod Top

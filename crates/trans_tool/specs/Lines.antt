@@ -4,22 +4,33 @@ use Rattle.std.specs.Io.KnownBytes.{Appends}
 use Rattle.outside.specs.Causes.{Rose}
 use Rattle.outside.specs.Streams.{AppendsPrefix}
 use Rattle.trans_tool.specs.declared.cause.Cause.{Cause}
-use Rattle.trans_tool.specs.declared.cause.Cause.TheVariants.{Done, Usage, FileRead, FileWrite, ErrFault, Memory, Unbuilt}
+use Rattle.trans_tool.specs.declared.cause.Cause.TheVariants.{Done, Usage, BadElf, TooLong, FileRead, FileWrite, OutFault, ErrFault, Memory, Unbuilt}
+use Rattle.elf_load.specs.Rules.{number_of}
 
 abbrev pub code_of : Cause → ℕ
 code_of Done = 0
 code_of Usage = 64
+code_of (BadElf rule offset) = 65
+code_of (TooLong file) = 69
 code_of (FileRead file) = 70
 code_of (FileWrite file) = 71
+code_of OutFault = 72
 code_of ErrFault = 73
 code_of Memory = 74
 code_of (Unbuilt address) = 80
 
+abbrev pub refusal_text : ℕ → ℕ → List ℕ
+refusal_text number offset =
+    codes "trans: elf refusal " ++ decimal number ++ codes " at offset " ++ decimal offset ++ codes "\n"
+
 abbrev pub line_of : Cause → List ℕ
 line_of Done = []
 line_of Usage = codes "trans: bad words\n"
+line_of (BadElf rule offset) = refusal_text (number_of rule) offset
+line_of (TooLong file) = codes "trans: file " ++ decimal file ++ codes " is too long\n"
 line_of (FileRead file) = codes "trans: cannot read file " ++ decimal file ++ codes "\n"
 line_of (FileWrite file) = codes "trans: cannot write file " ++ decimal file ++ codes "\n"
+line_of OutFault = codes "trans: output failed\n"
 line_of ErrFault = []
 line_of Memory = codes "trans: out of memory\n"
 line_of (Unbuilt address) = codes "trans: not built at " ++ decimal address ++ codes "\n"

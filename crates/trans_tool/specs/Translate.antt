@@ -1,69 +1,61 @@
 -- What a run of `translate IN OUT` did, by its cause.
-use Rattle.std.specs.Prelude.{◌≡◌, ◌≢◌, ◌+◌, ◌*◌, ◌<◌, ◌⊎◌, Bool, IsTrue, ℕ, List, Option, Some}
-use Rattle.trans_tool.specs.Plain.{IsPlain, IsTranslation, AllBuilt, IsFirstUnbuilt}
+use Rattle.std.specs.Prelude.{◌≡◌, ◌<◌, ◌≤◌, ◌⊎◌, IsTrue, ℕ, List, length, Some}
+use Rattle.space.specs.declared.program.Kind.TheVariants.{PowerPc}
+use Rattle.space.specs.declared.program.Program.{Program}
+use Rattle.elf_load.specs.Faults.{IsProgramOf, IsFirstFault}
+use Rattle.elf_load.specs.declared.refusal.ElfRefusal.{ElfRefusal}
+use Rattle.elf_load.specs.declared.refusal.LoadFault.{LoadFault}
+use Rattle.elf_load.specs.declared.refusal.LoadFault.TheVariants.{Refused, Memory as LoadMemory}
+use Rattle.machines.specs.Files.{Agrees}
+use Rattle.agreement.specs.Written.{Carries}
+use Rattle.translate_core.specs.Built.{IsAllBuilt, IsFirstUnbuilt}
+use Rattle.translate_core.specs.declared.translation.Output.{Output}
+use Rattle.trans_tool.specs.Whole.{IsLonger}
+use Rattle.trans_tool.specs.Seen.{Outside, FilesStand, OthersStand}
 use Rattle.trans_tool.specs.declared.translate.Refusal.{Refusal}
+use Rattle.trans_tool.specs.declared.translate.Refusal.TheVariants.{Elf}
+use Rattle.trans_tool.specs.declared.translate.Refusal.TheVariants as refusal
 use Rattle.trans_tool.specs.declared.cause.Cause.{Cause}
-use Rattle.trans_tool.specs.declared.cause.Cause.TheVariants.{Done, Usage, FileRead, FileWrite, ErrFault, Memory, Unbuilt}
+use Rattle.trans_tool.specs.declared.cause.Cause.TheVariants.{Done, Usage, BadElf, TooLong, FileRead, FileWrite, OutFault, ErrFault, Memory, Unbuilt}
 
--- the files before a run and behind it
-pub record Outside : Type 0 where
-  pub tells : Bool
-  pub held : List ℕ → Option (List ℕ)
-  pub held' : List ℕ → Option (List ℕ)
-  pub reads : List ℕ → ℕ
-  pub reads' : List ℕ → ℕ
-  pub replaces : List ℕ → ℕ
-  pub replaces' : List ℕ → ℕ
-
--- what the members of a store of files tell before a run and behind it
-abbrev pub seen_by : {F : Type 0} → (F → Bool) → (F → List ℕ → Option (List ℕ)) → (F → List ℕ → ℕ) → (F → List ℕ → ℕ) → F → F → Outside
-seen_by tells held reads replaces files files' = record {
-  tells = tells files;
-  held = held files;
-  held' = held files';
-  reads = reads files;
-  reads' = reads files';
-  replaces = replaces files;
-  replaces' = replaces files';
-}
-
--- the bytes under every name stay
-abbrev pub FilesStand : Outside → Type 0
-FilesStand o = IsTrue o.tells → (name : List ℕ) → o.held' name ≡ o.held name
-
--- the bytes under every other name stay
-abbrev pub OthersStand : Outside → List ℕ → Type 0
-OthersStand o to = IsTrue o.tells → (name : List ℕ) → name ≢ to → o.held' name ≡ o.held name
-
--- IN held these bytes, a plain file
+-- IN held these bytes, of which there are at most 16 MiB
 pub record IsInput (o : Outside) (from bytes : List ℕ) : Type 0 where
-  pub input : IsTrue o.tells → o.held from ≡ Some bytes
-  pub plain : IsPlain bytes
+  pub held : IsTrue o.tells → o.held from ≡ Some bytes
+  pub within : length bytes ≤ 0x1000000
 
--- IN held a plain file of built words
-pub record IsTranslatable (o : Outside) (from bytes : List ℕ) : Type 0 where
+-- IN held a PowerPC program
+pub record IsSource (o : Outside) (from bytes : List ℕ) (program : Program) : Type 0 where
   pub input : IsInput o from bytes
-  pub built : AllBuilt bytes
+  pub loads : IsProgramOf PowerPc bytes program
 
--- IN held a file that isn't plain
-abbrev pub IsUnplain : Outside → List ℕ → Type 0
-IsUnplain o from = IsTrue o.tells → (bytes : List ℕ) × (o.held from ≡ Some bytes) × (IsPlain bytes → ⊥)
+-- IN held a PowerPC program of built words
+pub record IsTranslatable (o : Outside) (from : List ℕ) : Type 0 where
+  pub bytes : List ℕ
+  pub program : Program
+  pub source : IsSource o from bytes program
+  pub built : IsAllBuilt program
 
--- IN held a plain file, whose first word that isn't built stands at this address
+-- IN held bytes whose first fault is this
+pub record IsRefused (o : Outside) (from : List ℕ) (rule : ElfRefusal) (offset : ℕ) : Type 0 where
+  pub bytes : List ℕ
+  pub input : IsInput o from bytes
+  pub fault : IsFirstFault PowerPc bytes rule offset
+
+-- IN held a program, whose first code word that isn't built stands at this address
 pub record StopsAt (o : Outside) (from : List ℕ) (address : ℕ) : Type 0 where
   pub bytes : List ℕ
-  pub place : ℕ
-  pub input : IsInput o from bytes
-  pub first : IsFirstUnbuilt bytes place
-  pub here : address ≡ 0x10000000 + 4 * place
+  pub program : Program
+  pub source : IsSource o from bytes program
+  pub first : IsFirstUnbuilt program address
 
--- IN held a plain file of built words, OUT holds a file that is written for them, and all other names
--- hold what they held
+-- IN held a program of built words. OUT holds a file that carries its translation and agrees with it: for every list of
+-- answers to calls, every choice of the processor and every n, until the program's first access outside its segments. All
+-- other names hold what they held.
 pub record IsTranslated (o : Outside) (from to : List ℕ) : Type 0 where
-  pub bytes : List ℕ
+  pub source : IsTranslatable o from
   pub file : List ℕ
-  pub source : IsTranslatable o from bytes
-  pub translation : IsTranslation bytes file
+  pub carries : Carries source.program file
+  pub agrees : Agrees source.program file
   pub written : IsTrue o.tells → o.held' to ≡ Some file
   pub others : OthersStand o to
 
@@ -72,13 +64,30 @@ pub record IsTranslated (o : Outside) (from to : List ℕ) : Type 0 where
 abbrev pub Ends : Outside → List ℕ → List ℕ → Cause → Type 0
 Ends o from to Done = IsTranslated o from to
 Ends o from to (FileRead file) = (file ≡ 0) × (o.reads from < o.reads' from) × FilesStand o
-Ends o from to (Unbuilt address) = (((address ≡ 0) × IsUnplain o from) ⊎ StopsAt o from address) × FilesStand o
-Ends o from to (FileWrite file) = (file ≡ 1) × (o.replaces to < o.replaces' to) × OthersStand o to × ((bytes : List ℕ) × IsTranslatable o from bytes)
-Ends o from to Memory = FilesStand o ⊎ (OthersStand o to × ((bytes : List ℕ) × IsTranslatable o from bytes))
+Ends o from to (TooLong file) = (file ≡ 0) × (IsTrue o.tells → IsLonger 0x1000000 (o.held from)) × FilesStand o
+Ends o from to (BadElf rule offset) = IsRefused o from rule offset × FilesStand o
+Ends o from to (Unbuilt address) = StopsAt o from address × FilesStand o
+Ends o from to (FileWrite file) = (file ≡ 1) × (o.replaces to < o.replaces' to) × OthersStand o to × IsTranslatable o from
+Ends o from to Memory = FilesStand o ⊎ (OthersStand o to × IsTranslatable o from)
 Ends o from to Usage = ⊥
+Ends o from to OutFault = ⊥
 Ends o from to ErrFault = ⊥
+
+-- a file of these bytes was translated so
+pub record IsAnswer (bytes : List ℕ) (output : Output) : Type 0 where
+  pub program : Program
+  pub loads : IsProgramOf PowerPc bytes program
+  pub built : IsAllBuilt program
+  pub carries : Carries program output.file
+  pub agrees : Agrees program output.file
 
 -- why a file of these bytes was not translated
 abbrev pub Refuses : List ℕ → Refusal → Type 0
-Refuses bytes (Refusal.Unbuilt address) = ((address ≡ 0) × (IsPlain bytes → ⊥)) ⊎ (IsPlain bytes × ((place : ℕ) × IsFirstUnbuilt bytes place × (address ≡ 0x10000000 + 4 * place)))
-Refuses bytes Refusal.Memory = Unit {0}
+Refuses bytes (Elf rule offset) = IsFirstFault PowerPc bytes rule offset
+Refuses bytes (refusal.Unbuilt address) = (program : Program) × IsProgramOf PowerPc bytes program × IsFirstUnbuilt program address
+Refuses bytes refusal.Memory = Unit {0}
+
+-- the refusal that a fault of loading gives
+abbrev pub refusal_of : LoadFault → Refusal
+refusal_of (Refused rule offset) = Elf rule offset
+refusal_of (LoadMemory none) = refusal.Memory

@@ -2,22 +2,29 @@
 
 ghost use Rattle.std.specs.Prelude.{◌≡◌, ◌≢◌, ◌⊎◌, IfOk, string_bytes};
 ghost use Rattle.outside.specs.Causes.{Rose};
-ghost use Rattle.trans_tool.specs.Lines.{code_of, line_of, IsTold};
+ghost use Rattle.trans_tool.specs.Lines.{code_of, refusal_text, line_of, IsTold};
 
+use elf_load::ElfRefusal;
 use outside::{Sink, put_all};
 use std::alloc::{AllocError, Global};
 
-/// Why a run of the tool ended. File 0 is IN, file 1 is OUT.
+/// Why a run of the tool ended. File 0 is IN or FILE, file 1 is OUT.
 #[derive(Clone, Copy, Debug, PartialEq, Eq)]
 pub enum Cause {
     /// The command did what it says.
     Done,
     /// The words spell no command.
     Usage,
+    /// The file of this number is no program: the first rule that it breaks, and the offset of what breaks it.
+    BadElf(ElfRefusal, u32),
+    /// The file of this number has more bytes than it may have.
+    TooLong(u8),
     /// The file of this number could not be read.
     FileRead(u8),
     /// The file of this number could not be replaced.
     FileWrite(u8),
+    /// The text of the command could not be put to the standard output whole.
+    OutFault,
     /// The line of a cause could not be put to the standard error.
     ErrFault,
     /// There was no memory for the work.
@@ -42,8 +49,11 @@ impl Cause {
         match self {
             Cause::Done => 0,
             Cause::Usage => 64,
+            Cause::BadElf(_, _) => 65,
+            Cause::TooLong(_) => 69,
             Cause::FileRead(_) => 70,
             Cause::FileWrite(_) => 71,
+            Cause::OutFault => 72,
             Cause::ErrFault => 73,
             Cause::Memory => 74,
             Cause::Unbuilt(_) => 80,
@@ -56,12 +66,21 @@ impl Cause {
         match self {
             Cause::Done | Cause::ErrFault => Ok(String::new(alloc)),
             Cause::Usage => format!(in alloc; "trans: bad words\n"),
+            Cause::BadElf(refusal, offset) => refusal_line(alloc, refusal.number(), offset),
+            Cause::TooLong(file) => format!(in alloc; "trans: file {file} is too long\n"),
             Cause::FileRead(file) => format!(in alloc; "trans: cannot read file {file}\n"),
             Cause::FileWrite(file) => format!(in alloc; "trans: cannot write file {file}\n"),
+            Cause::OutFault => format!(in alloc; "trans: output failed\n"),
             Cause::Memory => format!(in alloc; "trans: out of memory\n"),
             Cause::Unbuilt(address) => format!(in alloc; "trans: not built at {address}\n"),
         }
     }
+}
+
+fn refusal_line(alloc: Global, number: u8, offset: u32) -> Result<String, AllocError>
+    ensures { IfOk result (λ s. string_bytes s ≡ refusal_text number offset) }
+{
+    format!(in alloc; "trans: elf refusal {number} at offset {offset}\n")
 }
 
 /// Puts the line of a cause, if it has one. Without memory for the line the cause is `Memory`, whose

@@ -3,7 +3,7 @@
 
 mod cause;
 mod entry;
-mod plain;
+mod list;
 mod translate;
 mod whole;
 mod words;

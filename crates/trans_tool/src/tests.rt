@@ -1,6 +1,7 @@
 // Runs of the top call over files, a source and sinks in memory.
 
 use crate::{Cause, Status, top};
+use elf_load::ElfRefusal;
 use outside::{MemFiles, MemSink, MemSource};
 use std::alloc::{AllocError, Global};
 use std::process::Abort;
@@ -13,7 +14,15 @@ const BEFORE_SIZE: &str = "7f454c46010201000000000000000000000200140000000110000
 
 const BEHIND_SIZE: &str = "0000000500001000";
 
+mod files;
+mod listings;
+mod programs;
+mod refusals;
+
 const TRANSLATE: &[&str] = &["translate", "in", "out"];
+
+// How many bytes the output takes.
+const ROOM: usize = 100_000;
 
 // How a run ended, what it put to the output and to the errors, and the files behind it.
 #[derive(Drop)]
@@ -49,13 +58,14 @@ fn run_over(
     words: &[&str],
     input: &[u8],
     failing: &[u64],
+    output_failing: &[u64],
     errors_failing: &[u64],
 ) -> Result<Run, Fail> {
     let mut held = Vec::new(alloc);
     held.push((String::from_str(alloc, "in")?, input.to_vec(alloc)?))?;
     let mut files = MemFiles::of(alloc, held, failing.to_vec(alloc)?);
     let mut source = MemSource::of(Vec::new(alloc), Vec::new(alloc));
-    let mut output = MemSink::of(alloc, 100, Vec::new(alloc))?;
+    let mut output = MemSink::of(alloc, ROOM, output_failing.to_vec(alloc)?)?;
     let mut errors = MemSink::of(alloc, 100, errors_failing.to_vec(alloc)?)?;
     let words = words_of(alloc, words)?;
     let status = top(
@@ -83,7 +93,7 @@ fn is_translated(
     parts: &[(usize, &str)],
 ) -> Result<(), Fail> {
     let file = program(alloc, code)?;
-    let run = run_over(alloc, TRANSLATE, &file, &[], &[])?;
+    let run = run_over(alloc, TRANSLATE, &file, &[], &[], &[])?;
     assert!(rt;
         run.status
             == Status {
@@ -113,7 +123,7 @@ fn is_refused(
     end: (Cause, u8, &str),
 ) -> Result<(), Fail> {
     let (cause, code, line) = end;
-    let run = run_over(alloc, words, input, failing, errors_failing)?;
+    let run = run_over(alloc, words, input, failing, &[], errors_failing)?;
     assert!(rt; run.status == Status { code, cause }, "{line}");
     assert!(rt; run.errors.shown() == line.as_bytes(), "{line}");
     assert!(rt; run.output.shown().is_empty());
@@ -141,8 +151,17 @@ fn plain_files_are_translated(rt: HostRuntime) -> Result<(), Fail> {
 fn other_files_are_refused(rt: HostRuntime) -> Result<(), Fail> {
     let alloc = rt.alloc();
     let file = program(alloc, "380000013860000744000002")?;
-    let end = (Cause::Unbuilt(0), 80, "trans: not built at 0\n");
+    let end = (
+        Cause::BadElf(ElfRefusal::TableOutside, 28),
+        65,
+        "trans: elf refusal 10 at offset 28\n",
+    );
     is_refused(&rt, alloc, TRANSLATE, first(&file, 83), &[], &[], end)?;
+    let end = (
+        Cause::BadElf(ElfRefusal::SegmentOutside, 52),
+        65,
+        "trans: elf refusal 12 at offset 52\n",
+    );
     is_refused(&rt, alloc, TRANSLATE, first(&file, 95), &[], &[], end)?;
     let end = (
         Cause::Unbuilt(268435456),

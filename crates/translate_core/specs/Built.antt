@@ -1,20 +1,20 @@
--- The instructions that translation is built for.
-use Rattle.std.specs.Prelude.{ℕ, false}
-use Rattle.ppc_isa.specs.Legal.{IsWordOf}
-use Rattle.ppc_isa.specs.declared.instr.Instr.{Instr}
-use Rattle.ppc_isa.specs.declared.instr.Instr.TheVariants.{Immediate, Arithmetic, Branch, SystemCall}
-use Rattle.ppc_isa.specs.declared.instr.ImmediateOp.TheVariants.{Addi}
-use Rattle.ppc_isa.specs.declared.instr.ArithmeticOp.TheVariants.{Add}
+-- The programs that are translated so far.
+use Rattle.std.specs.Prelude.{◌≡◌, ℕ, ◌<◌, true}
+use Rattle.space.specs.declared.program.Program.{Program}
+use Rattle.machines.specs.Memory.{code_of}
+use Rattle.machines.specs.Guest.{is_code_word, code_word}
+use Rattle.code_layout.specs.Built.{IsBuiltWord}
 
--- addi, add that doesn't record, b that doesn't link, and sc
-abbrev pub IsBuilt : Instr → Type 0
-IsBuilt (Immediate Addi d a imm) = Unit {0}
-IsBuilt (Arithmetic Add d a b false) = Unit {0}
-IsBuilt (Branch target absolute false) = Unit {0}
-IsBuilt SystemCall = Unit {0}
-IsBuilt _ = ⊥
+-- at an address stands a code word that translation is built for
+abbrev pub IsBuiltAt : Program → ℕ → Type 0
+IsBuiltAt P a = IsBuiltWord (code_word (code_of P) a)
 
-pub record IsBuiltWord (word : ℕ) : Type 0 where
-  pub instr : Instr
-  pub spelled : IsWordOf word instr
-  pub built : IsBuilt instr
+-- translation is built for each code word
+abbrev pub IsAllBuilt : Program → Type 0
+IsAllBuilt P = (a : ℕ) → is_code_word (code_of P) a ≡ true → IsBuiltAt P a
+
+-- the first code word that translation isn't built for stands at this address
+pub record IsFirstUnbuilt (P : Program) (a : ℕ) : Type 0 where
+  pub here : is_code_word (code_of P) a ≡ true
+  pub unbuilt : IsBuiltAt P a → ⊥
+  pub before : (b : ℕ) → b < a → is_code_word (code_of P) b ≡ true → IsBuiltAt P b

@@ -1,6 +1,1 @@
 pub mod Built
-pub mod Blocks
-pub mod Code
-pub mod File
-pub mod Leaders
-pub mod Layout

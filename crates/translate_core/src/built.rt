@@ -1,63 +1,24 @@
-//! The instructions that translation is built for.
+//! What translation is not built for.
 
-ghost use Rattle.std.specs.Prelude.{◌≡◌, ◌<◌, ◌↔◌, ℕ, IsTrue, IfSome, IfNone, length, slice_index};
-ghost use Rattle.ppc_isa.specs.Legal.{IsWordOf};
-ghost use Rattle.translate_core.specs.Built.{IsBuilt, IsBuiltWord};
+ghost use Rattle.std.specs.Prelude.{ℕ, List, IfOk, MatchOption};
+ghost use Rattle.space.specs.declared.program.Kind.TheVariants.{PowerPc};
+ghost use Rattle.elf_load.specs.Faults.{IsProgramOf};
+ghost use Rattle.translate_core.specs.Built.{IsAllBuilt, IsFirstUnbuilt};
 
-use ppc_isa::{ArithmeticOp, ImmediateOp, Instr, decode};
+use code_words::{code_words, first};
+use space::Program;
+use std::alloc::Global;
+use word_kit::NoMemory;
 
-// Whether translation is built for the instruction: addi, add that doesn't record, b that doesn't
-// link, and sc.
-fn is_built(instr: &Instr) -> bool
-    ensures { IsTrue result ↔ IsBuilt instr.now }
+/// The address of the first code word that translation isn't built for yet.
+///
+/// # Errors
+/// `NoMemory` where there is no memory for the code words.
+pub fn first_unbuilt(alloc: Global, program: &Program) -> Result<Option<u32>, NoMemory>
+    requires program { (bytes : List ℕ) × IsProgramOf PowerPc bytes program.now }
+    ensures { IfOk result (λ o. MatchOption o (IsAllBuilt program.now) (λ a. IsFirstUnbuilt program.now a)) }
 {
-    matches!(
-        *instr,
-        Instr::Immediate {
-            op: ImmediateOp::Addi,
-            ..
-        } | Instr::Arithmetic {
-            op: ArithmeticOp::Add,
-            records: false,
-            ..
-        } | Instr::Branch { link: false, .. }
-            | Instr::SystemCall
-    )
-}
-
-// Whether the word is an instruction that translation is built for.
-fn is_built_word(word: u32) -> bool
-    ensures { IsTrue result ↔ IsBuiltWord word }
-{
-    match decode(word) {
-        Some(instr) => is_built(&instr),
-        None => false,
-    }
-}
-
-/// The place of the first word that translation isn't built for.
-pub fn first_unbuilt(words: &[u32]) -> Option<usize>
-    ensures none { IfNone result ((k : ℕ) → k < length words.now → IsBuiltWord (slice_index words.now k)) }
-    ensures within { IfSome result (λ k. k < length words.now) }
-    ensures unbuilt { IfSome result (λ k. IsBuiltWord (slice_index words.now k) → ⊥) }
-    ensures before { IfSome result (λ k. (j : ℕ) → j < k → IsBuiltWord (slice_index words.now j)) }
-{
-    for (place, word) in words.iter().enumerate() {
-        if !is_built_word(*word) {
-            return Some(place);
-        }
-    }
-    None
-}
-
-/// The instruction of a word that translation is built for.
-pub(crate) fn instruction(word: u32) -> Instr
-    requires { IsBuiltWord word }
-    ensures spelled { IsWordOf word result }
-    ensures built { IsBuilt result }
-{
-    match decode(word) {
-        Some(instr) => instr,
-        None => unreachable!(),
-    }
+    let words = code_words(alloc, program)?;
+    let place = code_layout::first_unbuilt(&words);
+    Ok(place.map(|place| first(program) + 4 * place as u32))
 }

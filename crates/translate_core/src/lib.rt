@@ -1,12 +1,8 @@
-//! The translation of a program: its blocks, the code that stands for them, and the file that carries it.
+//! The translation of PowerPC programs to IA-32 files, which agree with them.
 #![tactic(auto)]
 
-mod blocks;
 mod built;
-mod code;
-mod file;
-mod layout;
 mod translation;
 
 pub use built::first_unbuilt;
-pub use translation::translate;
+pub use translation::{Output, translate};

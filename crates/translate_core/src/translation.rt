@@ -1,38 +1,61 @@
-//! The translation of a program whose one segment is its code.
+//! The translation of a program.
 
-ghost use Rattle.std.specs.Prelude.{◌≤◌, ◌<◌, ℕ, IfOk, length, slice_index};
-ghost use Rattle.translate_core.specs.Built.{IsBuiltWord};
-ghost use Rattle.translate_core.specs.File.{IsWrittenFor};
+ghost use Rattle.std.specs.Prelude.{◌≡◌, ◌<◌, ℕ, List, IfOk, All};
+ghost use Rattle.space.specs.declared.program.Kind.TheVariants.{PowerPc};
+ghost use Rattle.elf_load.specs.Faults.{IsProgramOf};
+ghost use Rattle.machines.specs.Files.{Agrees};
+ghost use Rattle.agreement.specs.Written.{Carries};
+ghost use Rattle.translate_core.specs.Built.{IsAllBuilt};
 
-use crate::blocks::{CODE_START, leaders, order};
-use crate::code::Layout;
-use crate::file::file;
-use crate::layout::{code, entries};
+use agreement::carrying_agrees;
+use code_layout::{Source, lay};
+use code_words::{code_words, entry_place, first};
+use elf_emit::file;
+use elf_load::host_area;
+use space::{Bytes, Program};
 use std::alloc::Global;
 use word_kit::NoMemory;
 
-const PAGE: usize = 4096;
+/// What a translation gives.
+#[derive(Drop)]
+pub struct Output {
+    /// The IA-32 file: System V ELF32.
+    pub file: Bytes,
+}
 
-// Where the code stands behind the home page and the table, which has room for 512 KiB.
-const CODE_OFFSET: u32 = 0x8_1000;
-
-/// The IA-32 file of the program with these code words at 0x10000000, the first of them its entry.
-pub fn translate(alloc: Global, words: &[u32]) -> Result<Vec<u8>, NoMemory>
-    requires some { 0 < length words.now }
-    requires few { length words.now ≤ 131072 }
-    requires built { (k : ℕ) → k < length words.now → IsBuiltWord (slice_index words.now k) }
-    ensures { IfOk result (λ file. IsWrittenFor words.now file.items) }
+/// The translation of an accepted PowerPC program: a file that carries the blocks of its code words, and
+/// that agrees with it. Whatever the answers to the calls, whatever the processor chooses where the
+/// manual leaves it a choice, and for every n, the file makes the same calls with the same bytes and ends
+/// in the same way as the program's first n instructions, until the program's first access outside its
+/// own segments.
+///
+/// # Errors
+/// `NoMemory` where there is no memory for the file.
+pub fn translate(alloc: Global, program: &Program) -> Result<Output, NoMemory>
+    requires program { (bytes : List ℕ) × IsProgramOf PowerPc bytes program.now }
+    requires built { IsAllBuilt program.now }
+    ensures carries { IfOk result (λ o. Carries program.now o.file) }
+    ensures agrees { IfOk result (λ o. Agrees program.now o.file) }
 {
-    let area = CODE_START + (4 * words.len()).next_multiple_of(PAGE) as u32;
-    let leaders = leaders(alloc, words)?;
-    let order = order(alloc, &leaders)?;
-    let start = area + CODE_OFFSET;
-    let table = entries(alloc, words, &order, start)?;
-    let layout = Layout {
-        area,
-        code: start,
-        entries: &table,
+    carrying_agrees();
+    let words = code_words(alloc, program)?;
+    let source = Source {
+        first: first(program),
+        entry: entry_place(program),
+        words: &words,
     };
-    let code = code(alloc, words, &order, &layout)?;
-    file(alloc, words, area, &table, &code)
+    let area = host_area(program);
+    let code = lay(alloc, &source, area)?;
+    let bytes = file(alloc, program, &code, area)?;
+    Ok(Output {
+        file: file_bytes(bytes),
+    })
+}
+
+// The bytes of the file, as contracts see them.
+fn file_bytes(bytes: Vec<u8>) -> Bytes
+    ensures value { result ≡ bytes.items }
+    ensures bytes { All (λ b. b < 256) result }
+{
+    Bytes::from(bytes)
 }

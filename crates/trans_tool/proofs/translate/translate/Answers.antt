@@ -1,19 +1,16 @@
-use Rattle.std.proofs.Common.{inr, rules}
-use Rattle.trans_tool.proofs.Refusing.{refused-input}
+use Rattle.std.proofs.Common.{inr, refl, rules}
+use Rattle.trans_tool.proofs.Answering.{translatable, translated}
 use Rattle.trans_tool.proofs.translate.translate.Goals as goal
 
-pub returns-in-Err-Unbuilt : goal.returns-in-Err-Unbuilt
-returns-in-Err-Unbuilt g c = (refused-input _ _ c.in-Ok.bytes.items c.in-Err-Unbuilt.address (search rules) (search rules), search rules)
-
 pub returns-in-Ok-replace : goal.returns-in-Ok-replace
-returns-in-Ok-replace g c = record {
-  bytes = c.in-Ok.bytes.items;
-  file = c.in-Ok-translated.file.items;
-  source = search rules;
-  translation = search rules;
-  written = search rules;
-  others = search rules;
-}
+returns-in-Ok-replace g c =
+    translated _ _ c.in-Ok.bytes.items c.deref.result.now c.in-Ok-translated.output (search rules) c.in-Ok.ensures.bound c.deref.ensures.value c.in-Ok-translated.ensures
+    _ c.as_slice.result.now c.as_slice.ensures (search rules) (search rules)
+
+pub returns-in-Err-Failed-replace : goal.returns-in-Err-Failed-replace
+returns-in-Err-Failed-replace g c =
+    (refl, search rules, search rules, translatable _ _ c.in-Ok.bytes.items c.deref.result.now c.in-Ok-translated.output (search rules) c.in-Ok.ensures.bound c.deref.ensures.value c.in-Ok-translated.ensures)
 
 pub returns : goal.returns
-returns g c = inr (search rules, (c.in-Ok.bytes.items, search rules))
+returns g c =
+    inr (search rules, translatable _ _ c.in-Ok.bytes.items c.deref.result.now c.in-Ok-translated.output (search rules) c.in-Ok.ensures.bound c.deref.ensures.value c.in-Ok-translated.ensures)

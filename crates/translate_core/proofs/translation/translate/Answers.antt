@@ -1,11 +1,16 @@
-use Rattle.std.proofs.Common.{rules, ◌+◌, length}
-use Rattle.translate_core.proofs.Placing.{area_behind-least, written-for, code-for}
+use Rattle.translate_core.proofs.Carrying.{all_built, fits_area, carries}
 use Rattle.translate_core.proofs.translation.translate.Goals as goal
 
-pub returns : goal.returns
-returns c =
-    written-for c.args.words.now c.deref-5.result.now c.deref-6.result.now _ c.file.result
-    (area_behind-least (length c.args.words.now) c.next_multiple_of.result c.next_multiple_of.ensures.lower_bound c.next_multiple_of.ensures.upper_bound c.next_multiple_of.ensures.multiple)
-    (search rules)
-    (code-for c.args.words.now (0x10000000 + c.next_multiple_of.result) (0x10000000 + c.next_multiple_of.result + 0x81000) c.deref-5.result.now c.deref-3.result.now c.in_ok-code.code.items c.deref-6.result.now c.in_ok-leaders.leaders.items c.deref.result.now c.in_ok-order.order.items c.deref-4.result.now (search rules) c.in_ok-leaders.ensures.each c.deref.ensures.value c.in_ok-order.ensures.each c.deref-4.ensures.value (search rules) c.deref-6.ensures.value (search rules) c.in_ok-code.ensures.bytes)
-    c.file.ensures
+pub lay-requires-clause-built : goal.lay-requires-clause-built
+lay-requires-clause-built c = all_built c.args.program.now c.in_ok-words.words.items c.deref.result.now c.deref.ensures.value c.in_ok-words.ensures.words c.requires.built
+
+pub returns-clause-carries : goal.returns-clause-carries
+returns-clause-carries c =
+    carries c.args.program.now c.host_area-area.result c.first.result c.entry_place.result c.in_ok-code.code c.in_ok-words.words.items c.deref.result.now c.in_ok-bytes.bytes.items c.file_bytes.result
+    c.first.ensures c.deref.ensures.value c.in_ok-words.ensures.words c.requires.built c.entry_place.ensures.address (c.entry_place.ensures.within c.in_ok-words.words.items c.in_ok-words.ensures.words)
+    c.in_ok-code.ensures.code c.in_ok-code.ensures.count c.in_ok-code.ensures.start
+    (fits_area c.first.result c.entry_place.result c.in_ok-words.words.items c.deref.result.now c.host_area-area.result c.in_ok-code.code c.deref.ensures.value c.in_ok-words.ensures.some c.in_ok-words.ensures.most c.in_ok-code.ensures.code c.in_ok-code.ensures.count c.in_ok-code.ensures.fits)
+    c.host_area-area.ensures.area c.in_ok-bytes.ensures.bytes c.in_ok-bytes.ensures.loads c.file_bytes.ensures.value
+
+pub returns-clause-agrees : goal.returns-clause-agrees
+returns-clause-agrees c = c.carrying_agrees.ensures c.args.program.now c.file_bytes.result c.file_bytes.ensures.bytes (returns-clause-carries c)

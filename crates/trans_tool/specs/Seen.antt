@@ -1,0 +1,53 @@
+-- The files and the sinks before a run and behind it, by what they tell of themselves.
+use Rattle.std.specs.Prelude.{◌≡◌, ◌≢◌, Bool, IsTrue, ℕ, List, Option}
+
+-- the files before a run and behind it
+pub record Outside : Type 0 where
+  pub tells : Bool
+  pub held : List ℕ → Option (List ℕ)
+  pub held' : List ℕ → Option (List ℕ)
+  pub reads : List ℕ → ℕ
+  pub reads' : List ℕ → ℕ
+  pub replaces : List ℕ → ℕ
+  pub replaces' : List ℕ → ℕ
+
+-- what the members of a store of files tell before a run and behind it
+abbrev pub seen_by : {F : Type 0} → (F → Bool) → (F → List ℕ → Option (List ℕ)) → (F → List ℕ → ℕ) → (F → List ℕ → ℕ) → F → F → Outside
+seen_by tells held reads replaces files files' = record {
+  tells = tells files;
+  held = held files;
+  held' = held files';
+  reads = reads files;
+  reads' = reads files';
+  replaces = replaces files;
+  replaces' = replaces files';
+}
+
+-- the bytes under every name stay
+abbrev pub FilesStand : Outside → Type 0
+FilesStand o = IsTrue o.tells → (name : List ℕ) → o.held' name ≡ o.held name
+
+-- the bytes under every other name stay
+abbrev pub OthersStand : Outside → List ℕ → Type 0
+OthersStand o to = IsTrue o.tells → (name : List ℕ) → name ≢ to → o.held' name ≡ o.held name
+
+-- a sink before a run and behind it
+pub record Stream : Type 0 where
+  pub shown : Option (List ℕ)
+  pub shown' : Option (List ℕ)
+  pub faults : ℕ
+  pub faults' : ℕ
+
+-- what the members of a sink tell before a run and behind it
+abbrev pub heard_by : {S : Type 0} → (S → Option (List ℕ)) → (S → ℕ) → S → S → Stream
+heard_by shown faults sink sink' = record {
+  shown = shown sink;
+  shown' = shown sink';
+  faults = faults sink;
+  faults' = faults sink';
+}
+
+-- nothing was put to the sink, and it has not failed
+pub record StreamStands (s : Stream) : Type 0 where
+  pub shown : s.shown' ≡ s.shown
+  pub faults : s.faults' ≡ s.faults

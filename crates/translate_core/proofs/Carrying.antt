@@ -1,0 +1,74 @@
+-- What is put together of a program's words, code and file.
+use Rattle.std.proofs.Common.{◌≡◌, ℕ, ◌+◌, ◌*◌, ◌<◌, ◌≤◌, List, length, slice_index, refl, sym, subst, arith}
+use Rattle.space.specs.declared.program.Kind.TheVariants.{Ia32}
+use Rattle.space.specs.declared.program.Program.{Program}
+use Rattle.branch_table.specs.declared.code.Code.{Code}
+use Rattle.elf_load.specs.Area.{IsArea}
+use Rattle.elf_load.specs.Faults.{IsProgramOf}
+use Rattle.elf_emit.specs.File.{elf_file}
+use Rattle.elf_emit.specs.Translation.{FitsArea, file_segments, translated}
+use Rattle.code_layout.specs.Built.{IsBuiltWord}
+use Rattle.code_layout.specs.Layout.{IsCodeFor}
+use Rattle.code_words.specs.Words.{HasWords, first_of}
+use Rattle.laid_code.specs.Instance.{AreBuilt}
+use Rattle.agreement.specs.Written.{Carries}
+use Rattle.translate_core.specs.Built.{IsBuiltAt, IsAllBuilt, IsFirstUnbuilt}
+
+pub all_built : (P : Program) (words words' : List ℕ) → words' ≡ words → HasWords P (first_of P) words → IsAllBuilt P → AreBuilt words'
+all_built P words words' same has built = subst AreBuilt (sym same) (λ k lt. subst IsBuiltWord (has.each k lt) (built (first_of P + 4 * k) (has.here k lt)))
+
+-- the code begins with `hold`
+some_bytes : (first entry : ℕ) (words : List ℕ) (area : ℕ) (table code : List ℕ) → IsCodeFor first entry words area table code → 0 < length code
+some_bytes first entry words area table code x = subst (λ (bytes : List ℕ). 0 < length bytes) (sym x.laid.1) (omega arith)
+
+pub fits_area : (first entry : ℕ) (words words' : List ℕ) (area : ℕ) (code : Code) → words' ≡ words → 1 ≤ length words → length words ≤ 131072 →
+    IsCodeFor first entry words' area code.entries code.bytes → length code.entries ≡ length words' → 0x81000 + length code.bytes ≤ 0x0A000000 → FitsArea code
+fits_area first entry words words' area code same some most laid count fits =
+    let long : length code.entries ≡ length words = subst (λ (w : List ℕ). length code.entries ≡ length w) same count in
+    record {
+      some_entries = omega (arith, long, some);
+      table = omega (arith, long, most);
+      some_bytes = some_bytes first entry words' area code.entries code.bytes laid;
+      bytes = omega (arith, fits);
+    }
+
+pub carries : (P : Program) (area first entry : ℕ) (code : Code) (words words' bytes file : List ℕ) → first ≡ first_of P → words' ≡ words → HasWords P (first_of P) words → IsAllBuilt P →
+    P.entry ≡ first_of P + 4 * entry → entry < length words → IsCodeFor first entry words' area code.entries code.bytes → length code.entries ≡ length words' →
+    code.start ≡ slice_index code.entries entry → FitsArea code → IsArea P.segments area → bytes ≡ elf_file code.start (file_segments P code area) → IsProgramOf Ia32 bytes (translated P code area) → file ≡ bytes → Carries P file
+carries P area first entry code words words' bytes file here same has built begins within laid count start fits free whole loaded made = record {
+  area = area;
+  code = code;
+  in_area = free;
+  laid = record {
+    words = words;
+    entry = entry;
+    has = has;
+    built = all_built P words words refl has built;
+    begins = begins;
+    within = within;
+    blocks = subst (λ (f : ℕ). IsCodeFor f entry words area code.entries code.bytes) here (subst (λ (w : List ℕ). IsCodeFor first entry w area code.entries code.bytes) same laid);
+    count = subst (λ (w : List ℕ). length code.entries ≡ length w) same count;
+    start = start;
+    fits = fits;
+  };
+  whole = subst (λ (b : List ℕ). b ≡ elf_file code.start (file_segments P code area)) (sym made) whole;
+  loaded = subst (λ (b : List ℕ). IsProgramOf Ia32 b (translated P code area)) (sym made) loaded;
+}
+
+-- the first word that isn't built, by its place among the words
+module _ (P : Program) (words : List ℕ) (has : HasWords P (first_of P) words) where
+  pub none_unbuilt : ((k : ℕ) → k < length words → IsBuiltWord (slice_index words k)) → IsAllBuilt P
+  none_unbuilt built a on =
+      let k = has.only a on in
+      subst (IsBuiltAt P) (sym k.2) (subst IsBuiltWord (sym (has.each k.0 k.1)) (built k.0 k.1))
+
+  pub one_unbuilt : (k : ℕ) → k < length words → (IsBuiltWord (slice_index words k) → ⊥) → ((j : ℕ) → j < k → IsBuiltWord (slice_index words j)) → IsFirstUnbuilt P (first_of P + 4 * k)
+  one_unbuilt k lt unbuilt before = record {
+    here = has.here k lt;
+    unbuilt = λ built. unbuilt (subst IsBuiltWord (has.each k lt) built);
+    before = λ b lower on.
+        let j = has.only b on in
+        let e = j.2 in
+        let earlier : j.0 < k = omega (arith, lower, e) in
+        subst (IsBuiltAt P) (sym j.2) (subst IsBuiltWord (sym (has.each j.0 j.1)) (before j.0 earlier));
+  }

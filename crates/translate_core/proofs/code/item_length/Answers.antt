@@ -1,9 +1,0 @@
-use Rattle.std.proofs.Common.{rules}
-use Rattle.ia_codec.specs.Spelling.{spelling}
-use Rattle.ia_codec.specs.declared.op.Op.TheVariants.{Jmp}
-use Rattle.translate_core.proofs.Lengths.{spelled-length}
-use Rattle.translate_core.proofs.code.item_length.Goals as goal
-
-pub returns-in-Edge-clause-value : goal.returns-in-Edge-clause-value
-returns-in-Edge-clause-value c =
-    rw c.in-Edge.is (spelled-length c.encode-in-Edge.result.bytes (spelling (Jmp 0)) c.encode-in-Edge.result.len (search rules) c.encode-in-Edge.ensures.spelled)

@@ -1,6 +1,0 @@
-use Rattle.std.proofs.Common.{◌≡◌, map, take}
-use Rattle.base_flow.specs.declared.flow_op.FlowOp.TheVariants.{Plain}
-use Rattle.translate_core.proofs.code.plain_items.Given as goal
-
-abbrev pub invariant-loop-op : goal.invariant-loop-op
-invariant-loop-op l = l.items.items ≡ map (λ op. Plain op) (take l.op-index l.ops)

@@ -1,7 +1,0 @@
-use Rattle.std.proofs.Common.{rules, vec_len}
-use Rattle.translate_core.proofs.Placing.{home_page-parts}
-use Rattle.translate_core.proofs.file.home_page.Goals as goal
-
-pub returns-clause-bytes : goal.returns-clause-bytes
-returns-clause-bytes c =
-    home_page-parts c.in_ok-home.home.items c.put_word.new.file.items c.put_word-2.new.file.items c.resize.new.self.items (vec_len c.put_word-2.new.file) (search rules) c.in_ok-put_word.ensures.bytes c.in_ok-put_word-2.ensures.bytes (search rules) c.in_ok-resize.ensures.items
