@@ -138,6 +138,10 @@ move_many = 0x3BC00005 ∷ 0x3BE00009 ∷ 0xBFC10000 ∷ 0xBBA10000 ∷ 0x387E00
 abbrev pub compare : List ℕ
 compare = 0x38600007 ∷ 0x2C830008 ∷ 0x41840008 ∷ 0x38600001 ∷ 0x38000001 ∷ 0x44000002 ∷ []
 
+-- addi r3,0,3; addic. r3,r3,-1; mfspr r4,1; mfcr r5; add r3,r4,r5; addi r0,0,1; sc: CA and GT of field 0 are set
+abbrev pub record_and_carry : List ℕ
+record_and_carry = 0x38600003 ∷ 0x3463FFFF ∷ 0x7C8102A6 ∷ 0x7CA00026 ∷ 0x7C642A14 ∷ 0x38000001 ∷ 0x44000002 ∷ []
+
 -- addi r4,0,2; mtspr 9,r4; addi r3,r3,1; bc 16,0,-4; addi r0,0,1; sc: a loop that CTR counts
 abbrev pub count_down : List ℕ
 count_down = 0x38800002 ∷ 0x7C8903A6 ∷ 0x38630001 ∷ 0x4200FFFC ∷ 0x38000001 ∷ 0x44000002 ∷ []

@@ -2,7 +2,7 @@
 
 ghost use Rattle.std.specs.Prelude.{◌-◌, ◌^◌, cond};
 ghost use Rattle.space.specs.declared.call.End.TheVariants.{DivideFault, Exit, Illegal, Outside, Trap};
-ghost use Rattle.machines.specs.Examples.{EndsAt, exit_seven, unknown_call, jump, jump_back, add_negative, no_instruction, write_65, WritesStack, WriteAnswers, ReadAnswers, load_word, push_frame, move_many, compare, count_down, link, trap_equal, load_outside, store_to_code};
+ghost use Rattle.machines.specs.Examples.{EndsAt, exit_seven, unknown_call, jump, jump_back, add_negative, no_instruction, write_65, WritesStack, WriteAnswers, ReadAnswers, load_word, push_frame, move_many, record_and_carry, compare, count_down, link, trap_equal, load_outside, store_to_code};
 ghost use Rattle.machines.specs.Host.{choice_at, chosen_flags};
 ghost use Rattle.machines.specs.HostExamples.{HostEndsAt, HostEndsBy, host_exit, host_unknown, host_branch, host_no_branch, host_memory, host_code_write, host_trap, host_ud2, host_nothing, host_off, host_shift, host_byte, host_divide, host_divide_by_zero, host_jump};
 
@@ -72,6 +72,11 @@ pub fn accesses()
     ensures moves_many { EndsAt move_many 7 (Exit 9) }
     ensures loads_nothing { EndsAt load_outside 1 Outside }
     ensures stores_no_code { EndsAt store_to_code 2 Outside }
+{}
+
+/// A form that records and carries leaves CA in XER and GT in field 0 of CR.
+pub fn records_and_carries()
+    ensures { EndsAt record_and_carry 7 (Exit 0x60000000) }
 {}
 
 /// A branch looks at the field that a compare wrote, or counts CTR down to 0. With LK it leaves the address
