@@ -5,3 +5,4 @@ pub mod CodePlace
 pub mod OneFault
 pub mod OneProgram
 pub mod LowCode
+pub mod Loaded

@@ -18,21 +18,22 @@ use Rattle.elf_load.specs.Code.{HasLowCode}
 use Rattle.elf_load.specs.declared.faults.HeaderRule.TheVariants as header_rule
 use Rattle.elf_load.specs.declared.refusal.ElfRefusal.{ElfRefusal}
 use Rattle.elf_load.specs.declared.refusal.ElfRefusal.TheVariants as refusal
-use Rattle.elf_load.proofs.Tried.{none_breaks}
+use Rattle.elf_load.proofs.Tried.{none_breaks, le_of_not-lt, load_of}
 
 abbrev Low : Segment → Type 0
 Low s = s.at + length s.bytes ≤ 0xC0000000
 
-zeros-length : (n : ℕ) → length (zeros n) ≡ n
+pub zeros-length : (n : ℕ) → length (zeros n) ≡ n
 unfolding zeros
 zeros-length n = length-replicate n 0
 
-le_of_not-lt : (a b : ℕ) → ¬ (a < b) → b ≤ a
-le_of_not-lt a b h = omega arith
+-- a segment has no more bytes than its header asks for
+pub segment_length : (bytes : List ℕ) (h : ProgramHeader) → h.filesz ≤ h.memsz → length (segment_of bytes h).bytes ≤ h.memsz
+segment_length bytes h sizes =
+    omega (arith, length-append (take h.filesz (drop h.offset bytes)) (zeros (h.memsz - h.filesz)), length-take h.filesz (drop h.offset bytes), zeros-length (h.memsz - h.filesz))
 
 segment_is_low : (bytes : List ℕ) (h : ProgramHeader) → h.filesz ≤ h.memsz → h.vaddr + h.memsz ≤ 0xC0000000 → Low (segment_of bytes h)
-segment_is_low bytes h sizes low =
-    omega (arith, sizes, low, length-append (take h.filesz (drop h.offset bytes)) (zeros (h.memsz - h.filesz)), length-take h.filesz (drop h.offset bytes), zeros-length (h.memsz - h.filesz))
+segment_is_low bytes h sizes low = omega (arith, segment_length bytes h sizes)
 
 no_segment : All Low []
 no_segment k d lt = absurd (omega arith)
@@ -49,9 +50,6 @@ stack_is_low Ia32 = no_segment
 maybe : (b : Bool) (s : Segment) → (b ≡ true → Low s) → All Low (if b then s ∷ [] else [])
 maybe true s low = one_segment s (low refl)
 maybe false s low = no_segment
-
-load_of : (h : ProgramHeader) → is_segment h ≡ true → IsTrue (is_load h)
-load_of h segment = grind arith
 
 module _ (kind : Kind) (bytes : List ℕ) (passes : (rule : ElfRefusal) → Passes rule kind bytes) where
   header_is_low : (k : ℕ) → k < header_count kind bytes → is_segment (header kind bytes k) ≡ true → Low (segment_of bytes (header kind bytes k))

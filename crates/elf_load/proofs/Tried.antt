@@ -81,7 +81,7 @@ passes_next kind bytes rule n is below here r h =
     subst (λ (t : ElfRefusal). Passes t kind bytes) same here)
     (number_of r) h r refl
 
-le_of_not-lt : (a b : ℕ) → ¬ (a < b) → b ≤ a
+pub le_of_not-lt : (a b : ℕ) → ¬ (a < b) → b ≤ a
 le_of_not-lt a b h = omega arith
 
 pub long_enough : (kind : Kind) (bytes : List ℕ) (n : ℕ) → PassesBelow n kind bytes → 2 ≤ n → 52 ≤ length bytes
@@ -109,15 +109,15 @@ none_breaks rule kind bytes never (suc n) le k h =
     }))
     k (omega arith)
 
-load_of : (kind : Kind) (bytes : List ℕ) (k : ℕ) → is_segment (header kind bytes k) ≡ true → IsTrue (is_load (header kind bytes k))
-load_of kind bytes k h = grind arith
+pub load_of : (h : ProgramHeader) → is_segment h ≡ true → IsTrue (is_load h)
+load_of h segment = grind arith
 
 inside_at : (kind : Kind) (bytes : List ℕ) (n : ℕ) → PassesBelow n kind bytes → 14 ≤ n → (k : ℕ) → k < header_count kind bytes
     → is_segment (header kind bytes k) ≡ true
     → ((header kind bytes k).offset + (header kind bytes k).filesz ≤ length bytes)
     × ((header kind bytes k).filesz ≤ (header kind bytes k).memsz)
 inside_at kind bytes n below h k within segment =
-    let load : IsTrue (is_load (header kind bytes k)) = load_of kind bytes k segment in (
+    let load : IsTrue (is_load (header kind bytes k)) = load_of (header kind bytes k) segment in (
       le_of_not-lt _ _ (λ lt. none_breaks header_rule.SegmentOutside kind bytes (below refusal.SegmentOutside (omega arith))
           (header_count kind bytes) (omega arith) k within (load, lt)),
       le_of_not-lt _ _ (λ lt. none_breaks header_rule.SizesCrossed kind bytes (below refusal.SizesCrossed (omega arith))

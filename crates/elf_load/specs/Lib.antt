@@ -5,3 +5,4 @@ pub mod Rules
 pub mod Faults
 pub mod Area
 pub mod Code
+pub mod Loaded

@@ -10,7 +10,9 @@ mod numbers;
 mod refusal;
 
 pub use area::host_area;
-pub use laws::{one_fault, one_program, program_without_fault};
+pub use laws::{
+    loaded_code_is_closed, loaded_is_apart, one_fault, one_program, program_without_fault,
+};
 pub use loading::load;
 pub use refusal::{ElfRefusal, LoadFault};
 
