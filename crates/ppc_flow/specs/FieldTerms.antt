@@ -1,6 +1,5 @@
 -- The terms of moves of CR and the special registers.
 use Rattle.std.specs.Prelude.{ℕ, ◌+◌, ◌-◌, ◌*◌, cond, eqb}
-use Rattle.word_kit.specs.Bits.{bit_of}
 use Rattle.word_kit.specs.Operations.{Operations, FlagMade}
 use Rattle.word_kit.specs.Words.{complement}
 use Rattle.ppc_isa.specs.FieldRows.{fields_mask, xer_mask}
