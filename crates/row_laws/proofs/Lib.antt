@@ -1,0 +1,9 @@
+mod Instructions
+mod Digits
+mod Bits
+mod Fields
+mod Lists
+mod Chosen
+mod Shapes
+mod Kept
+pub mod Changes
