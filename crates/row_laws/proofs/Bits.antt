@@ -1,5 +1,5 @@
 -- Numbers by their bits.
-use Rattle.std.proofs.Common.{◌≡◌, ◌≢◌, ℕ, zero, suc, ◌+◌, ◌-◌, ◌*◌, ◌/◌, ◌%◌, ◌^◌, ◌<◌, ◌≤◌, ◌⊎◌, Bool, true, false, cond, eqb, not, ◌&&◌, ◌||◌, refl, sym, ap, ◌∙◌, subst, inl, inr, mul_comm, mul_assoc, arith}
+use Rattle.std.proofs.Common.{◌≡◌, ℕ, zero, suc, ◌+◌, ◌-◌, ◌*◌, ◌/◌, ◌%◌, ◌^◌, ◌<◌, ◌⊎◌, Bool, true, false, eqb, not, ◌&&◌, ◌||◌, refl, sym, ap, ◌∙◌, subst, inl, inr, mul_comm, mul_assoc, arith}
 use Rattle.std.proofs.Math.Nat.{pow-suc, mul-add-div_right}
 use Rattle.std.proofs.Math.Arith.{digits_div}
 use Rattle.std.proofs.Math.Pow.{pow_pos}

@@ -1,22 +1,22 @@
 -- What stays as it was where an instruction doesn't write.
-use Rattle.std.proofs.Common.{◌≡◌, ◌≢◌, ℕ, zero, suc, ◌+◌, ◌-◌, ◌*◌, ◌/◌, ◌%◌, ◌^◌, ◌<◌, ◌≤◌, ◌⊎◌, Bool, true, false, cond, eqb, leb, ltb, ◌==◌, ◌&&◌, ◌||◌, Contains, List, [], ◌∷◌, ◌++◌, refl, sym, ap, ◌∙◌, subst, inl, inr, arith}
+use Rattle.std.proofs.Common.{◌≡◌, ◌≢◌, ℕ, ◌+◌, ◌-◌, ◌*◌, ◌/◌, ◌%◌, ◌^◌, ◌<◌, ◌≤◌, Bool, true, false, cond, eqb, leb, ltb, ◌==◌, ◌&&◌, ◌||◌, Contains, [], ◌∷◌, ◌++◌, refl, sym, ap, ◌∙◌, subst, inl, inr, arith}
 use Rattle.std.proofs.lemmas.Bool.{eqb-true}
 use Rattle.std.proofs.lemmas.Bool.Decides.{nat_tests}
 use Rattle.space.specs.declared.call.End.TheVariants.{Exit, Outside}
-use Rattle.space.specs.Reports.{AnswerValue, Read, Write, Close, Given, Gives as GivesResult, Fails, given}
-use Rattle.runs.specs.Machine.{Outcome, Goes, Asks, Ends}
+use Rattle.space.specs.Reports.{Read, Write, Close, Given, Gives as GivesResult, Fails, given}
+use Rattle.runs.specs.Machine.{Outcome, Goes, Ends}
 use Rattle.word_kit.specs.Words.{is_less, sum_word}
 use Rattle.word_kit.specs.Bits.{bit_of, with_bit}
 use Rattle.ppc_isa.specs.Legal.{IsSpr, bo_2}
-use Rattle.ppc_isa.specs.Locations.{when, count, special, registers_from, chosen_fields, locations_written, ca, cr}
+use Rattle.ppc_isa.specs.Locations.{when, count, special, registers_from, chosen_fields, ca, cr}
 use Rattle.ppc_isa.specs.Effect.{GuestValues, Effect}
-use Rattle.ppc_isa.specs.Recording.{so, place, with_ca, with_field, compared}
+use Rattle.ppc_isa.specs.Recording.{so, place, with_ca, with_field}
 use Rattle.ppc_isa.specs.BranchRows.{bo_bit, counted}
 use Rattle.machines.specs.Memory.{update, load_big, block, each_byte, Rights}
 use Rattle.machines.specs.Guest.{Guest, cr_word, xer_word, put_cr, put_xer, results, puts_cr, puts_xer, put_special, put_loaded, linked, behind, after_given, without_so, with_so, asks, system_call}
 use Rattle.row_laws.specs.Laws.{Next, AgreeBut}
 use Rattle.row_laws.proofs.Digits.{digit, with_bit_other}
-use Rattle.row_laws.proofs.Fields.{InRange, field_of_word, ca_of_word, so_of_word, ov_of_word, xc_of_word, so_with_ca, ov_with_ca, xc_with_ca, with_field_other, put_cr_keeps, put_xer_keeps}
+use Rattle.row_laws.proofs.Fields.{InRange, field_of_word, so_of_word, ov_of_word, xc_of_word, so_with_ca, ov_with_ca, xc_with_ca, with_field_other, put_cr_keeps, put_xer_keeps}
 use Rattle.row_laws.proofs.Chosen.{put_fields, field_kept}
 use Rattle.row_laws.proofs.Lists.{Lacks, not_first, not_later, not_left, not_right, not_when, registers_in, chosen_in}
 use Rattle.row_laws.proofs.Shapes.{Gives}

@@ -7,3 +7,7 @@ mod Chosen
 mod Shapes
 mod Kept
 pub mod Changes
+mod Numbers
+mod Accesses
+mod Same
+pub mod Depends
