@@ -1,0 +1,13 @@
+mod Instructions
+mod Digits
+mod Bits
+mod Fields
+mod Lists
+mod Chosen
+mod Shapes
+mod Kept
+pub mod Changes
+mod Numbers
+mod Accesses
+mod Same
+pub mod Depends
