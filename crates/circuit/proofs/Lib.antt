@@ -7,3 +7,9 @@ pub mod Meanings
 pub mod FreeValues
 pub mod Extended
 pub mod Pushed
+pub mod GateTruths
+pub mod Differing
+pub mod Marking
+pub mod Appended
+pub mod Formulas
+pub mod Growing

@@ -6,4 +6,6 @@ pub mod BitGates
 pub mod Turns
 pub mod GatesRange
 pub mod Extensions
+pub mod Clauses
+pub mod Marks
 pub mod Miters

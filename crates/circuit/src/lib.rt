@@ -3,12 +3,14 @@
 
 mod algebra;
 mod bits;
+mod clauses;
 mod gates;
 mod laws;
 mod literals;
 mod miters;
 mod nodes;
 mod operations;
+mod reached;
 mod wiring;
 mod words;
 
