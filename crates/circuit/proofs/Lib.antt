@@ -13,3 +13,4 @@ pub mod Marking
 pub mod Appended
 pub mod Formulas
 pub mod Growing
+pub mod OneFormula

@@ -1,7 +1,7 @@
 -- The clauses of gates, and the gates that a clause reaches.
-use Rattle.std.specs.Prelude.{◌≡◌, ◌↔◌, ℕ, ◌+◌, Bool, IsTrue, cond, List, [], ◌∷◌, ◌++◌, Option, None, Some, slice_get, ℤ, pos, neg_ℤ}
+use Rattle.std.specs.Prelude.{◌≡◌, ◌↔◌, ℕ, ◌+◌, Bool, true, false, IsTrue, cond, List, [], ◌∷◌, ◌++◌, Option, None, Some, slice_get, ℤ, pos, neg_ℤ}
 use Rattle.std.specs.List.{Any}
-use Rattle.word_kit.specs.Formulas.{variable}
+use Rattle.word_kit.specs.Formulas.{variable, Satisfies}
 use Rattle.circuit.specs.declared.nodes.Node.{Node}
 use Rattle.circuit.specs.declared.nodes.Node.TheVariants.{Input, And, Xor, Free}
 
@@ -48,3 +48,14 @@ abbrev pub AreClausesFor : List Node → Option (List ℤ) → List (List ℤ) �
 AreClausesFor ns None clauses = clauses ≡ []
 AreClausesFor ns (Some final) clauses =
     (reached : ℕ → Bool) × ((k : ℕ) → IsTrue (reached k) ↔ IsReached ns final k) × (clauses ≡ chosen_clauses reached 1 ns ++ final ∷ [])
+
+abbrev pub is_gate : Node → Bool
+is_gate (Input n) = false
+is_gate (And x y) = true
+is_gate (Xor x y) = true
+is_gate (Free word place) = false
+
+-- w satisfies the clauses of every gate, and has the truths of v for all that is no gate
+pub record SatisfiesGates (ns : List Node) (v w : ℕ → Bool) : Type 0 where
+  pub satisfies : Satisfies w (chosen_clauses (λ k. true) 1 ns)
+  pub untied : (k : ℕ) (n : Node) → slice_get ns k ≡ Some n → is_gate n ≡ false → w (k + 1) ≡ v (k + 1)

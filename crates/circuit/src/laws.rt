@@ -1,7 +1,9 @@
 //! What holds of every circuit.
 
-ghost use Rattle.std.specs.Prelude.{ℕ, Bool};
+ghost use Rattle.std.specs.Prelude.{◌≡◌, ℕ, ℤ, Bool, List, Option, Some, slice_get};
 ghost use Rattle.circuit.specs.Extensions.{Extends};
+ghost use Rattle.circuit.specs.Clauses.{AreClausesFor, SatisfiesGates};
+ghost use Rattle.circuit.specs.declared.nodes.Node.{Node as AnyNode};
 
 use crate::gates::Gates;
 
@@ -12,3 +14,16 @@ pub fn inputs_extend(gates: &Gates)
 {
     let _count = gates.nodes.len();
 }
+
+/// No clause ties an input, a product half or a division: whatever truths they have, some assignment with these truths
+/// satisfies the clauses of every gate.
+pub fn untied(gates: &Gates)
+    ensures { (v : ℕ → Bool) → (w : ℕ → Bool) × SatisfiesGates gates.now.nodes.keys v w }
+{
+    let _count = gates.nodes.len();
+}
+
+/// One list of clauses alone belongs to a final clause.
+pub fn one_formula()
+    ensures { (nodes : List AnyNode) (last : Option (List ℤ)) (first second : List (List ℤ)) → AreClausesFor nodes last first → AreClausesFor nodes last second → first ≡ second }
+{}

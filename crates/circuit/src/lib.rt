@@ -15,7 +15,7 @@ mod wiring;
 mod words;
 
 pub use gates::Gates;
-pub use laws::inputs_extend;
+pub use laws::{inputs_extend, one_formula, untied};
 pub use literals::Lit;
 
 #[cfg(test)]
