@@ -1,5 +1,6 @@
 pub mod Same
 pub mod Kept
+pub mod Sharing
 pub mod Values
 pub mod Numbers
 pub mod Shifts

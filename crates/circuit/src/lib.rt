@@ -15,7 +15,7 @@ mod wiring;
 mod words;
 
 pub use gates::Gates;
-pub use laws::{inputs_extend, one_formula, untied};
+pub use laws::{inputs_extend, one_formula, one_of_each, untied};
 pub use literals::Lit;
 
 #[cfg(test)]
