@@ -20,12 +20,12 @@ use Rattle.circuit.proofs.Values.{word_reach-at}
 pub record SameBelow (m : ℕ) (v w : ℕ → Bool) : Type 0 where
   pub same_at : (j : ℕ) → j ≤ m → v j ≡ w j
 
-signed_same : (z : ℤ) (m : ℕ) (v w : ℕ → Bool) → SameBelow m v w → signed_reach z ≤ m → literal_truth z v ≡ literal_truth z w
+pub signed_same : (z : ℤ) (m : ℕ) (v w : ℕ → Bool) → SameBelow m v w → signed_reach z ≤ m → literal_truth z v ≡ literal_truth z w
 signed_same (pos zero) m v w s h = s.same_at 0 (omega arith)
 signed_same (pos (suc n)) m v w s h = s.same_at (suc n) h
 signed_same (negsuc n) m v w s h = let e : n + 1 ≡ suc n = omega arith in ap not (s.same_at (suc n) (omega arith))
 
-lit_same : (l : Lit) (m : ℕ) (v w : ℕ → Bool) → SameBelow m v w → lit_reach l ≤ m → lit_truth l v ≡ lit_truth l w
+pub lit_same : (l : Lit) (m : ℕ) (v w : ℕ → Bool) → SameBelow m v w → lit_reach l ≤ m → lit_truth l v ≡ lit_truth l w
 lit_same (Const b) m v w s h = refl
 lit_same (Var z) m v w s h = signed_same z m v w s h
 
@@ -114,7 +114,7 @@ extended_meets T k (m ∷ ms) v (suc i) n h =
     subst (λ q. Met T q n (extended T (k + 1) ms u)) c t
 
 -- variables whose nodes keep their own truth keep that of the start
-extended_input : (T : Node → Bool → (ℕ → Bool) → Bool) (k : ℕ) (ns : List Node) (v : ℕ → Bool) (j : ℕ) (n : Node) → ((b : Bool) (u : ℕ → Bool) → T n b u ≡ b) → slice_get ns j ≡ Some n
+pub extended_input : (T : Node → Bool → (ℕ → Bool) → Bool) (k : ℕ) (ns : List Node) (v : ℕ → Bool) (j : ℕ) (n : Node) → ((b : Bool) (u : ℕ → Bool) → T n b u ≡ b) → slice_get ns j ≡ Some n
     → extended T k ns v (k + j + 1) ≡ v (k + j + 1)
 unfolding extended
 extended_input T k [] v j n t h = absurd (cc)

@@ -37,7 +37,7 @@ AllAgree-insert_key eq xs y v h k n e = h k n (slice_get-insert_key eq xs y k n 
 pub AllAgree-inserted : (eq : Node → Node → Bool) (xs ys : List Node) (y : Node) (v : ℕ → Bool) → ys ≡ insert_key eq xs y → AllAgree ys v → AllAgree xs v
 AllAgree-inserted eq xs ys y v e h = AllAgree-insert_key eq xs y v (subst (λ ks. AllAgree ks v) e h)
 
-kept_at : (P : Node → ℕ → Type 0) (b : Bool) (xs : List Node) (y : Node) → ((k : ℕ) (n : Node) → slice_get xs k ≡ Some n → P n k) → P y (length xs)
+pub kept_at : (P : Node → ℕ → Type 0) (b : Bool) (xs : List Node) (y : Node) → ((k : ℕ) (n : Node) → slice_get xs k ≡ Some n → P n k) → P y (length xs)
     → (k : ℕ) (n : Node) → slice_get (if b then xs else xs ++ y ∷ []) k ≡ Some n → P n k
 kept_at P true xs y o r k n h = o k n h
 kept_at P false xs y o r k n h =

@@ -1,5 +1,6 @@
 pub mod Same
 pub mod Kept
+pub mod Sharing
 pub mod Values
 pub mod Numbers
 pub mod Shifts
@@ -7,3 +8,10 @@ pub mod Meanings
 pub mod FreeValues
 pub mod Extended
 pub mod Pushed
+pub mod GateTruths
+pub mod Differing
+pub mod Marking
+pub mod Appended
+pub mod Formulas
+pub mod Growing
+pub mod OneFormula

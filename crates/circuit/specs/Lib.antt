@@ -1,9 +1,12 @@
 pub mod Literals
 pub mod Nodes
+pub mod Sharing
 pub mod Made
 pub mod WordsMade
 pub mod BitGates
 pub mod Turns
 pub mod GatesRange
 pub mod Extensions
+pub mod Clauses
+pub mod Marks
 pub mod Miters

@@ -1,5 +1,5 @@
 -- What literals, and words of them, mean where variables have truths.
-use Rattle.std.specs.Prelude.{ℕ, zero, suc, ◌+◌, ◌^◌, Bool, false, List, max, ℤ, pos, negsuc, slice_index_or}
+use Rattle.std.specs.Prelude.{ℕ, zero, suc, ◌+◌, ◌^◌, Bool, false, List, max, Option, None, Some, ℤ, pos, negsuc, slice_index_or}
 use Rattle.word_kit.specs.Formulas.{literal_truth}
 use Rattle.word_kit.specs.Bits.{of_bits}
 use Rattle.circuit.specs.declared.literals.Lit.{Lit}
@@ -27,3 +27,13 @@ word_value n w v = of_bits (λ k. lit_truth (slice_index_or w k (Const false)) v
 unfoldable pub word_reach_below : ℕ → List Lit → ℕ
 word_reach_below zero w = 0
 word_reach_below (suc n) w = max (word_reach_below n w) (lit_reach (slice_index_or w n (Const false)))
+
+-- the constant that is true
+abbrev pub is_true : Lit → Bool
+is_true (Const b) = b
+is_true (Var z) = false
+
+-- the variable of a literal that is no constant, with its sign
+abbrev pub signed_variable : Lit → Option ℤ
+signed_variable (Const b) = None
+signed_variable (Var z) = Some z

@@ -1,7 +1,10 @@
 -- The formula that says that a pair of literals differs.
-use Rattle.std.specs.Prelude.{◌≤◌, ◌<◌, length, slice_index_or, ℕ, Bool, false, not, List}
+use Rattle.std.specs.Prelude.{◌≤◌, ◌<◌, length, slice_index_or, ℕ, Bool, false, not, cond, IsTrue, List, Option, None, Some, ℤ}
+use Rattle.std.specs.List.{Any, list_any, filter_map}
 use Rattle.word_kit.specs.Words.{same}
-use Rattle.circuit.specs.Literals.{lit_truth, lit_reach}
+use Rattle.word_kit.specs.Formulas.{Satisfies}
+use Rattle.circuit.specs.Literals.{lit_truth, lit_reach, is_true, signed_variable}
+use Rattle.circuit.specs.Extensions.{GatesAgree}
 use Rattle.circuit.specs.Made.{xor_made}
 use Rattle.circuit.specs.WordsMade.{WordsMade, word_made}
 use Rattle.circuit.specs.declared.literals.Lit.{Lit}
@@ -24,3 +27,14 @@ pub record AreOwned (extent : ℕ) (pairs : List (Lit × Lit)) : Type 0 where
 -- whether a pair differs
 abbrev pub differs : (ℕ → Bool) → Lit × Lit → Bool
 differs v p = not (same (lit_truth p.0 v) (lit_truth p.1 v))
+
+-- the gates allow a pair to differ, whatever product halves and divisions are
+abbrev pub CanDiffer : List Node → List (Lit × Lit) → Type 0
+CanDiffer ns pairs = (v : ℕ → Bool) × GatesAgree ns v × Any (λ p. IsTrue (differs v p)) pairs
+
+-- The clause by which one of these literals is true: false constants are left out, and where one is true there is no clause.
+unfoldable pub final_clause : List Lit → Option (List ℤ)
+final_clause literals = cond (list_any is_true literals) None (Some (filter_map signed_variable literals))
+
+abbrev pub IsSatisfiable : List (List ℤ) → Type 0
+IsSatisfiable clauses = (v : ℕ → Bool) × Satisfies v clauses

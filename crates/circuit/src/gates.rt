@@ -5,6 +5,7 @@ ghost use Rattle.word_kit.specs.Words.{same};
 ghost use Rattle.word_kit.specs.Formulas.{literal_truth};
 ghost use Rattle.circuit.specs.Literals.{lit_truth, lit_reach, signed_reach};
 ghost use Rattle.circuit.specs.Nodes.{AllAgree, IsOrdered, Says, free_count, node_reach, told_place, is_free};
+ghost use Rattle.circuit.specs.Sharing.{IsShared, IsApart, IsBegun};
 ghost use Rattle.circuit.specs.Extensions.{GatesAgree, GateSays};
 ghost use Rattle.circuit.specs.Made.{node_made, and_made, xor_made, xor_node_made, xor_signed_made};
 ghost use Rattle.indexmap.specs.IndexSet.{index_set_len};
@@ -22,6 +23,7 @@ pub struct Gates {
     pub nodes: IndexSet<Node>,
     ghost few: { index_set_len nodes < 2 ^ 31 },
     ghost ordered: { IsOrdered nodes.keys },
+    ghost shared: { IsShared nodes.keys },
 }
 
 impl Gates {
@@ -39,6 +41,8 @@ impl Gates {
     pub fn variable(&mut self, node: Node) -> Result<Lit, NoMemory>
         requires reads { node_reach node ≤ length self.old.nodes.keys }
         requires places { told_place node (length self.old.nodes.keys) ≡ length self.old.nodes.keys }
+        requires apart { IsApart self.old.nodes.keys node }
+        requires begun { IsBegun self.old.nodes.keys node }
         ensures grows { length self.old.nodes.keys ≤ length self.new.nodes.keys }
         ensures earlier { (v : ℕ → Bool) → AllAgree self.new.nodes.keys v → AllAgree self.old.nodes.keys v }
         ensures gates { (v : ℕ → Bool) → GatesAgree self.new.nodes.keys v → GatesAgree self.old.nodes.keys v }

@@ -3,17 +3,19 @@
 
 mod algebra;
 mod bits;
+mod clauses;
 mod gates;
 mod laws;
 mod literals;
 mod miters;
 mod nodes;
 mod operations;
+mod reached;
 mod wiring;
 mod words;
 
 pub use gates::Gates;
-pub use laws::inputs_extend;
+pub use laws::{inputs_extend, one_formula, one_of_each, untied};
 pub use literals::Lit;
 
 #[cfg(test)]

@@ -2,7 +2,7 @@
 
 ghost use Rattle.std.specs.Prelude.{◌≡◌, ◌<◌, ◌^◌, ◌+◌, ℕ, Bool, not, pos};
 ghost use Rattle.word_kit.specs.Words.{same};
-ghost use Rattle.circuit.specs.Literals.{lit_truth, lit_reach};
+ghost use Rattle.circuit.specs.Literals.{lit_truth, lit_reach, is_true, signed_variable};
 ghost use Rattle.circuit.specs.Made.{opposite, turned, same_lit};
 
 /// A constant, or the number of a variable with a minus where it is negated.
@@ -36,6 +36,26 @@ impl Lit {
         ensures made { result ≡ turned self minus }
     {
         if minus { self.flip() } else { self }
+    }
+
+    /// Whether it is the constant that is true.
+    pub fn is_true(self) -> bool
+        ensures { result ≡ is_true self }
+    {
+        match self {
+            Lit::Const(b) => b,
+            Lit::Var(_) => false,
+        }
+    }
+
+    /// The variable with its sign, where it is no constant.
+    pub fn signed_variable(self) -> Option<i32>
+        ensures { result ≡ signed_variable self }
+    {
+        match self {
+            Lit::Const(_) => None,
+            Lit::Var(x) => Some(x),
+        }
     }
 
     /// Whether it is the same literal.

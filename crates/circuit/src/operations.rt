@@ -5,6 +5,7 @@ ghost use Rattle.word_kit.specs.Words.{is_less};
 ghost use Rattle.word_kit.specs.Products.{product_low, product_high};
 ghost use Rattle.circuit.specs.Literals.{lit_truth, lit_reach, word_value, word_reach_below};
 ghost use Rattle.circuit.specs.Turns.{turned_word};
+ghost use Rattle.circuit.specs.Sharing.{IsApart};
 ghost use Rattle.circuit.specs.Nodes.{AllAgree, free_count, free_value, free_reach};
 ghost use Rattle.circuit.specs.WordsMade.{at, word_of, not_bits, top_flipped, stage_made, shift_made, less_made, low_word, high_word, moved_by};
 
@@ -111,6 +112,7 @@ impl Gates {
         ensures made { result ≡ low_word ⟦<Node as PartialEq>⟧.eq self.now.nodes.keys x y }
         ensures means { (v : ℕ → Bool) → free_value result v ≡ product_low (word_value 32 x v) (word_value 32 y v) }
         ensures owned { (m : ℕ) → word_reach_below 32 x ≤ m → word_reach_below 32 y ≤ m → free_reach result ≤ m }
+        ensures apart { IsApart self.now.nodes.keys (Node.Free result 0) }
     {
         let swapped = FreeWord::ProductLow(y, x);
         if self.nodes.contains(&Node::Free(swapped, 0)) {
@@ -125,6 +127,7 @@ impl Gates {
         ensures made { result ≡ high_word ⟦<Node as PartialEq>⟧.eq self.now.nodes.keys signed x y }
         ensures means { (v : ℕ → Bool) → free_value result v ≡ product_high (word_value 32 x v) (word_value 32 y v) signed }
         ensures owned { (m : ℕ) → word_reach_below 32 x ≤ m → word_reach_below 32 y ≤ m → free_reach result ≤ m }
+        ensures apart { IsApart self.now.nodes.keys (Node.Free result 0) }
     {
         let swapped = FreeWord::ProductHigh(signed, y, x);
         if self.nodes.contains(&Node::Free(swapped, 0)) {

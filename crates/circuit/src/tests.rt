@@ -1,6 +1,6 @@
 use crate::*;
 use std::alloc::Global;
-use word_kit::{Alg, NoMemory};
+use word_kit::{Alg, Clauses, NoMemory};
 
 // Expected values are worked out by hand from the rules of gates.
 
@@ -75,4 +75,71 @@ fn product_is_shared(alloc: Global) -> Result<bool, NoMemory> {
 #[test]
 fn products_of_a_pair_are_one(rt: HostRuntime) {
     assert!(rt; holds(product_is_shared(rt.alloc())));
+}
+
+fn are_clauses(clauses: &Clauses, expected: &[&[i32]]) -> bool {
+    let clauses = clauses.as_slice();
+    if clauses.len() != expected.len() {
+        return false;
+    }
+    for i in 0..clauses.len() {
+        if clauses[i].as_slice() != expected[i] {
+            return false;
+        }
+    }
+    true
+}
+
+fn inputs_differ(alloc: Global) -> Result<bool, NoMemory> {
+    let mut gates = Gates::fresh(alloc);
+    gates.input()?;
+    gates.input()?;
+    let formula = gates.miter(alloc, &[(Lit::Var(1), Lit::Var(2))])?;
+    let xor: [&[i32]; 5] = [&[-3, 1, 2], &[-3, -1, -2], &[3, -1, 2], &[3, 1, -2], &[3]];
+    Ok(formula.variables == 3 && are_clauses(&formula.clauses, &xor))
+}
+
+#[test]
+fn two_inputs_may_differ(rt: HostRuntime) {
+    assert!(rt; holds(inputs_differ(rt.alloc())));
+}
+
+// Variable 4 is an Xor that nothing needs, variable 5 an And, and variable 6 the Xor of the pair.
+fn result_differs(alloc: Global) -> Result<bool, NoMemory> {
+    let mut gates = Gates::fresh(alloc);
+    let b = gates.input()?;
+    let c = gates.input()?;
+    let d = gates.input()?;
+    gates.xor_gate(b, d)?;
+    let both = gates.and_gate(b, c.flip())?;
+    let formula = gates.miter(alloc, &[(d, d), (both, d)])?;
+    let reached: [&[i32]; 8] = [
+        &[-5, 1],
+        &[-5, -2],
+        &[5, -1, 2],
+        &[-6, 3, 5],
+        &[-6, -3, -5],
+        &[6, -3, 5],
+        &[6, 3, -5],
+        &[6],
+    ];
+    Ok(formula.variables == 6 && are_clauses(&formula.clauses, &reached))
+}
+
+#[test]
+fn gates_out_of_reach_are_left_out(rt: HostRuntime) {
+    assert!(rt; holds(result_differs(rt.alloc())));
+}
+
+fn constants_tell(alloc: Global) -> Result<bool, NoMemory> {
+    let mut gates = Gates::fresh(alloc);
+    let b = gates.input()?;
+    let never = gates.miter(alloc, &[(b, b)])?;
+    let always = gates.miter(alloc, &[(b, b), (b, b.flip())])?;
+    Ok(are_clauses(&never.clauses, &[&[]]) && are_clauses(&always.clauses, &[]))
+}
+
+#[test]
+fn constant_differences_make_no_gate(rt: HostRuntime) {
+    assert!(rt; holds(constants_tell(rt.alloc())));
 }

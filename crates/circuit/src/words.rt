@@ -4,6 +4,7 @@ ghost use Rattle.std.specs.Prelude.{◌≡◌, ◌≤◌, ◌<◌, ◌+◌, ◌*
 ghost use Rattle.word_kit.specs.Words.{same, one_if};
 ghost use Rattle.word_kit.specs.Bits.{bit_of};
 ghost use Rattle.circuit.specs.Literals.{lit_truth, lit_reach, word_value, word_reach_below};
+ghost use Rattle.circuit.specs.Sharing.{IsApart};
 ghost use Rattle.circuit.specs.Nodes.{AllAgree, free_count, free_value, free_reach};
 ghost use Rattle.circuit.specs.WordsMade.{at, gate_made, bitwise_made, free_made, sum_made, equal_made};
 ghost use Rattle.circuit.specs.BitGates.{gate_truth, gate_reach};
@@ -74,6 +75,7 @@ impl Gates {
     /// A word that no gate ties.
     pub fn free_word(&mut self, word: FreeWord) -> Result<[Lit; 32], NoMemory>
         requires owned { free_reach word ≤ length self.old.nodes.keys }
+        requires apart { IsApart self.old.nodes.keys (Node.Free word 0) }
         ensures grows { length self.old.nodes.keys ≤ length self.new.nodes.keys }
         ensures earlier { (v : ℕ → Bool) → AllAgree self.new.nodes.keys v → AllAgree self.old.nodes.keys v }
         ensures counts { free_count self.old.nodes.keys ≤ free_count self.new.nodes.keys }

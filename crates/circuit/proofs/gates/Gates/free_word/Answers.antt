@@ -6,6 +6,7 @@ use Rattle.circuit.specs.WordsMade.{word_made}
 use Rattle.circuit.specs.contracts.nodes.NodePartialEq.TheImpl.{ghosts}
 use Rattle.circuit.specs.declared.nodes.Node.TheVariants.{Free}
 use Rattle.circuit.proofs.Values.{whole, word_stands-zero, word_stands-suc, word_reach-zero, reach_step, bits_step}
+use Rattle.circuit.proofs.Sharing.{word_apart, word_begun, begun_at, made_node}
 use Rattle.circuit.proofs.gates.Gates.free_word.Goals as goal
 
 pub loop-i-init : goal.loop-i-init
@@ -16,8 +17,16 @@ loop-i-init c = record {
   earlier = λ v h. h;
   counts = omega arith;
   owned = rw (word_reach-zero _) (omega arith);
+  apart = c.requires.apart;
+  begun = λ l. absurd (omega arith);
   means = λ v h k l. absurd (omega arith);
 }
+
+pub variable-requires-clause-apart : goal.variable-requires-clause-apart
+variable-requires-clause-apart c = c.loop-i.invariant.apart
+
+pub variable-requires-clause-begun : goal.variable-requires-clause-begun
+variable-requires-clause-begun c = begun_at _ c.args.word c.loop-i.i c.loop-i.invariant.begun
 
 pub loop-i-preserved : goal.loop-i-preserved
 loop-i-preserved c =
@@ -29,6 +38,8 @@ loop-i-preserved c =
       earlier = λ v h. c.loop-i.invariant.earlier v (c.in_ok-bit.ensures.earlier v h);
       counts = omega (arith, c.in_ok-bit.ensures.counts);
       owned = reach_step c.loop-i.i c.loop-i.out c.in_ok-bit.bit _ inside (omega arith) c.in_ok-bit.ensures.owned;
+      apart = word_apart _ _ c.args.word c.loop-i.i (made_node _ _ _ c.in_ok-bit.ensures.held) c.loop-i.invariant.apart;
+      begun = λ l. word_begun _ _ c.args.word c.loop-i.i (made_node _ _ _ c.in_ok-bit.ensures.held) c.loop-i.invariant.begun;
       means = λ v h. bits_step (λ k. bit_of (free_value c.args.word v) k) c.loop-i.i c.loop-i.out c.in_ok-bit.bit v inside
           (c.loop-i.invariant.means v (c.in_ok-bit.ensures.earlier v h)) (c.in_ok-bit.ensures.means v h);
     }

@@ -2,6 +2,7 @@ use Rattle.std.proofs.Common.{◌≡◌, ℕ, ◌<◌, ◌≤◌, Bool, length}
 use Rattle.word_kit.specs.Bits.{bit_of}
 use Rattle.circuit.specs.Literals.{lit_truth, word_reach_below}
 use Rattle.circuit.specs.Nodes.{AllAgree, free_count, free_value}
+use Rattle.circuit.specs.Sharing.{IsApart, IsThere}
 use Rattle.circuit.specs.Made.{node_made}
 use Rattle.circuit.specs.WordsMade.{at}
 use Rattle.circuit.specs.contracts.nodes.NodePartialEq.TheImpl.{ghosts}
@@ -17,5 +18,7 @@ invariant-loop-i l = record {
   earlier : (v : ℕ → Bool) → AllAgree l.self.nodes.keys v → AllAgree l.fn.self.nodes.keys v;
   counts : free_count l.fn.self.nodes.keys ≤ free_count l.self.nodes.keys;
   owned : word_reach_below l.i l.out ≤ length l.self.nodes.keys;
+  apart : IsApart l.self.nodes.keys (Free l.word 0);
+  begun : 0 < l.i → IsThere l.self.nodes.keys (Free l.word 0);
   means : (v : ℕ → Bool) → AllAgree l.self.nodes.keys v → (k : ℕ) → k < l.i → lit_truth (at l.out k) v ≡ bit_of (free_value l.word v) k;
 }

@@ -1,6 +1,7 @@
 use Rattle.std.proofs.Common.{ap}
 use Rattle.circuit.proofs.Same.{node_same, says_at, gate_says_at}
 use Rattle.circuit.proofs.Kept.{AllAgree-inserted, GatesAgree-inserted, ordered_either, counted}
+use Rattle.circuit.proofs.Sharing.{shared_either}
 use Rattle.circuit.specs.Literals.{lit_truth}
 use Rattle.circuit.specs.Nodes.{AllAgree}
 use Rattle.circuit.specs.Extensions.{GatesAgree}
@@ -33,3 +34,6 @@ unfolding GatesAgree
 returns-in-Ok-clause-gate c = λ v h.
     let s = c.in-Ok.ensures.stored in
     gate_says_at _ _ _ _ v (node_same c.args.node s.0 s.2) (ap (λ l. lit_truth l v) c.literal_at.ensures) (h c.in-Ok.index s.0 s.1)
+
+pub invariant_of-self-clause-shared : goal.invariant_of-self-clause-shared
+invariant_of-self-clause-shared c = shared_either c.insert_full.result ghosts.eq _ _ c.args.node c.insert_full.ensures.keys c.insert_full.ensures.err c.args.self.now.shared c.requires.apart c.requires.begun
