@@ -1,4 +1,2 @@
 pub mod Models
-pub mod Trails
-pub mod Indexes
-pub mod Roots
+pub mod Steps

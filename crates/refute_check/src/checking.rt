@@ -3,26 +3,13 @@ ghost use Rattle.std.specs.Prelude.{◌≡◌, ◌↔◌, ◌++◌, [], IfOk, If
 ghost use Rattle.std.specs.Ordering.{int_eq};
 ghost use Rattle.indexmap.specs.IndexMap.{get};
 ghost use Rattle.word_kit.specs.Formulas.{IsFormula, AreClauses};
-ghost use Rattle.refute_check.specs.Indexes.{IsReady};
+ghost use Rattle.unit_propagation.specs.Indexes.{IsReady};
 ghost use Rattle.refute_check.specs.Refutations.{StepsFollow, IsFirstBad, EndsEmpty, IsRefutation, IsCause};
 
 use crate::CheckFault;
-use crate::known::Known;
 use std::alloc::Global;
+use unit_propagation::know;
 use word_kit::{Clause, Formula, NoMemory, Refutation};
-
-/// The clauses of the formula as known ones.
-fn know(alloc: Global, formula: &[Clause]) -> Result<Known, NoMemory>
-    requires { AreClauses formula.now }
-    ensures { IfOk result (λ known. IsReady formula.now
-        (get int_eq known.mentions.newest) known.mentions.all.items known.trail.keys known.refuted) }
-{
-    let mut known = Known::new(alloc);
-    for place in 0..formula.len() {
-        known.add(&formula[..place + 1], &[])?;
-    }
-    Ok(known)
-}
 
 /// The first step that doesn't follow.
 fn first_bad(alloc: Global, formula: &[Clause], steps: &[Clause]) -> Result<Option<usize>, NoMemory>

@@ -3,7 +3,7 @@ use Rattle.std.specs.List.{All}
 use Rattle.std.proofs.lemmas.List.Elements.{All-append, All-take}
 use Rattle.word_kit.specs.Formulas.{IsLiteral}
 use Rattle.refute_check.specs.Refutations.{StepFollows}
-use Rattle.refute_check.proofs.Roots.{step-judged, bad-step, steps-front}
+use Rattle.refute_check.proofs.Steps.{step-judged, bad-step, steps-front}
 use Rattle.refute_check.proofs.checking.first_bad.Goals as goal
 
 pub returns-then-not-branch : goal.returns-then-not-branch

@@ -1,7 +1,7 @@
 use Rattle.std.proofs.Common.{ℕ, ◌<◌, take, ◌++◌}
 use Rattle.std.specs.Ordering.{int_eq}
 use Rattle.indexmap.specs.IndexMap.{get}
-use Rattle.refute_check.specs.Indexes.{IsReady}
+use Rattle.unit_propagation.specs.Indexes.{IsReady}
 use Rattle.refute_check.specs.Refutations.{StepFollows}
 use Rattle.refute_check.proofs.checking.first_bad.Given as goal
 

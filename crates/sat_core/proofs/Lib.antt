@@ -1,0 +1,6 @@
+pub mod Without
+pub mod Chosen
+pub mod Tight
+pub mod Learned
+pub mod Models
+pub mod Turns

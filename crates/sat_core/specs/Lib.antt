@@ -1,0 +1,4 @@
+pub mod Lessons
+pub mod Verdicts
+pub mod Decisions
+pub mod Found

@@ -1,0 +1,3 @@
+pub mod Trails
+pub mod Indexes
+pub mod Roots

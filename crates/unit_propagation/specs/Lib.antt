@@ -1,0 +1,3 @@
+pub mod Propagation
+pub mod Trails
+pub mod Indexes
