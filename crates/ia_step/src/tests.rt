@@ -1,4 +1,4 @@
-ghost use Rattle.std.specs.Prelude.{IfOk};
+ghost use Rattle.std.specs.Prelude.{◌≤◌, IfOk, length};
 ghost use Rattle.space.specs.Memory.{AreApart};
 ghost use Rattle.access.specs.Kept.{HasClosedCode};
 
@@ -9,6 +9,7 @@ use word_kit::NoMemory;
 
 // A program with this code, and 16 bytes that may be written.
 fn program(alloc: Global, code: &[u8]) -> Result<Program, NoMemory>
+    requires { length code.now ≤ 4096 }
     ensures apart { IfOk result (λ p. AreApart p.segments) }
     ensures closed { IfOk result (λ p. HasClosedCode p) }
 {
