@@ -52,3 +52,11 @@ word_in a s = if has_word a s then Some (big_number 4 (drop (a - s.at) s.bytes))
 
 abbrev pub code_word : Memory → ℕ → Option ℕ
 code_word m a = option_and_then (word_in a) (slice_get m.segments m.code)
+
+-- the bytes from an address of the segment on to its end
+abbrev pub bytes_from : ℕ → Segment → Option (List ℕ)
+bytes_from a s = if has_address a s then Some (drop (a - s.at) s.bytes) else None
+
+-- the same for the code
+abbrev pub code_from : Memory → ℕ → Option (List ℕ)
+code_from m a = option_and_then (bytes_from a) (slice_get m.segments m.code)

@@ -1,7 +1,7 @@
 //! The memory of a running program.
-ghost use Rattle.std.specs.Prelude.{◌≡◌, ◌+◌, ◌-◌, ◌%◌, ◌^◌, ◌<◌, ◌≤◌, ◌↔◌, ℕ, false, true, not, ◌&&◌, ◌||◌, IsTrue, IfOk, Some, slice_get, slice_index, length, EachIndex, position};
+ghost use Rattle.std.specs.Prelude.{◌≡◌, ◌+◌, ◌-◌, ◌%◌, ◌^◌, ◌<◌, ◌≤◌, ◌↔◌, ℕ, false, true, not, ◌&&◌, ◌||◌, IsTrue, IfOk, Some, slice_get, slice_index, length, EachIndex, position, option_copied};
 ghost use Rattle.std.specs.Bool.{OnTrue, OnFalse};
-ghost use Rattle.space.specs.Memory.{AreApart, ArePermitted, has_address, permits, is_permitted, byte_at, with_byte, code_word, put_byte, word_in};
+ghost use Rattle.space.specs.Memory.{AreApart, ArePermitted, has_address, permits, is_permitted, byte_at, with_byte, code_word, put_byte, word_in, bytes_from, code_from};
 
 use crate::{Bytes, Program, Segment};
 use byteorder::{BigEndian, ByteOrder};
@@ -95,6 +95,17 @@ fn read_word(at: u32, s: &Segment) -> Option<u32>
     if at % 4 == 0 && s.at <= at && u64::from(at) + 4 <= end {
         let offset = (at - s.at) as usize;
         Some(BigEndian::read_u32(&s.bytes.as_slice()[offset..]))
+    } else {
+        None
+    }
+}
+
+/// The bytes from an address of the segment on to its end.
+fn read_from(at: u32, s: &Segment) -> Option<&[u8]>
+    ensures { option_copied result ≡ bytes_from at s.now }
+{
+    if lies_in(at, s) {
+        Some(&s.bytes.as_slice()[(at - s.at) as usize..])
     } else {
         None
     }
@@ -204,5 +215,12 @@ impl Space {
         ensures { result ≡ code_word self.now at }
     {
         read_word(at, self.segments.get(self.code)?)
+    }
+
+    /// The bytes of the code from an address in it on to its end, or None where the address isn't in the code segment.
+    pub fn code_from(&self, at: u32) -> Option<&[u8]>
+        ensures { option_copied result ≡ code_from self.now at }
+    {
+        read_from(at, self.segments.get(self.code)?)
     }
 }

@@ -1,0 +1,24 @@
+use Rattle.std.proofs.Common.{◌+◌, ◌%◌, ◌^◌, ℕ, ◌≡◌, refl, ap, arith}
+use Rattle.access.proofs.Steps.{little_put, may_be_put, none_put}
+use Rattle.access.proofs.stores.store_little.Goals as goal
+
+pub returns-then-not-holds-clause-answer : goal.returns-then-not-holds-clause-answer
+returns-then-not-holds-clause-answer c = λ p bytes keeps. let h = c.holds.ensures p bytes keeps in cc
+
+pub loop-k-init : goal.loop-k-init
+loop-k-init c = λ p bytes keeps. (none_put p bytes c.args.space.now c.args.at c.args.value keeps).1
+
+pub loop-k-preserved : goal.loop-k-preserved
+loop-k-preserved c = λ p bytes keeps.
+    little_put p bytes c.args.space.now c.loop-k.space c.write.new.self c.args.at c.loop-k.k _ _ c.write.result keeps
+    (ap (λ (j : ℕ). (c.args.at + j) % 2 ^ 32) c.from-in-loop-k.ensures)
+    (may_be_put p bytes c.args.space.now c.args.width c.from.result c.args.at c.loop-k.k c.holds.result keeps (c.holds.ensures p bytes keeps) (cc) c.from.ensures c.loop-k-test.true)
+    c.write.ensures.answer c.write.ensures.written c.args.value (c.loop-k.invariant p bytes keeps) refl
+
+pub returns-clause-answer : goal.returns-clause-answer
+returns-clause-answer c = λ p bytes keeps. let h = c.holds.ensures p bytes keeps in cc
+
+pub returns-clause-stored : goal.returns-clause-stored
+returns-clause-stored c = λ p bytes keeps.
+    let e : c.loop-k.k ≡ c.args.width = omega arith in
+    rw e at (c.loop-k.invariant p bytes keeps)

@@ -1,0 +1,4 @@
+pub mod Values
+pub mod Shown
+pub mod Calls
+pub mod Steps

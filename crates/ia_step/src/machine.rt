@@ -1,0 +1,129 @@
+//! The machine.
+
+ghost use Rattle.std.specs.Prelude.{◌≡◌, ℕ, List, Option, map, IfOk, slice_index};
+ghost use Rattle.space.specs.declared.call.End.{End as Ending};
+ghost use Rattle.space.specs.declared.program.Program.{Program as OfProgram};
+ghost use Rattle.space.specs.Memory.{AreApart};
+ghost use Rattle.space.specs.Reports.{ListedCall, AnswerValue, answer_value};
+ghost use Rattle.runs.specs.Machine.{Outcome, Goes, Asks};
+ghost use Rattle.ia_codec.specs.Spelling.{IsReg};
+ghost use Rattle.access.specs.Kept.{HasClosedCode};
+ghost use Rattle.machines.specs.Readings.{Fetched, ReadsOps};
+ghost use Rattle.machines.specs.Host.{Host, host_start};
+ghost use Rattle.ia_step.specs.Values.{choice_of};
+ghost use Rattle.ia_step.specs.Steps.{Shows, Tells, IsTold, IsWaiting, stepped};
+
+use crate::choices::{Choice, Choices};
+use crate::parts::{Flags, Parts};
+use crate::state::State;
+use access::first_memory;
+use space::{Answer, Call, End, Event, Program, Space};
+use std::alloc::Global;
+use std::marker::Model;
+use word_kit::NoMemory;
+
+/// How a machine stands.
+#[derive(Clone, Copy)]
+enum Phase {
+    Going,
+    Waiting(Call),
+    Over(End),
+}
+
+/// An IA-32 machine that runs a program.
+#[derive(Drop)]
+pub struct Machine {
+    state: State,
+    phase: Phase,
+}
+
+impl Model for Machine {
+    ghost use Rattle.ia_step.specs.Steps.{Seen, IsReady};
+
+    ghost Value = { Seen };
+
+    ghost view = { λ m. record { state = m.state; phase = m.phase } };
+
+    ghost invariant = { λ m. IsReady m.phase m.state };
+}
+
+impl Machine {
+    /// The machine before its first step. Choices 0 to 7 are the registers by number, the flags of choice 8 the flags,
+    /// and choice 9 + k serves step k. Past the list's end each is 0.
+    pub fn boot(alloc: Global, program: &Program, choices: Vec<Choice>) -> Result<Machine, NoMemory>
+        requires apart { AreApart program.now.segments }
+        requires closed { HasClosedCode program.now }
+        ensures { IfOk result (λ machine. Shows program.now machine (Goes (host_start program.now (map choice_of choices.items)))) }
+    {
+        let space = first_memory(alloc, program)?;
+        let mut choices = Choices::from_start(choices);
+        let regs = [
+            choices.next_word(),
+            choices.next_word(),
+            choices.next_word(),
+            choices.next_word(),
+            choices.next_word(),
+            choices.next_word(),
+            choices.next_word(),
+            choices.next_word(),
+        ];
+        let flags = choices.first().flags();
+        choices.advance();
+        Ok(Machine {
+            state: State {
+                parts: Parts { regs, flags, space },
+                eip: program.entry,
+                choices,
+            },
+            phase: Phase::Going,
+        })
+    }
+
+    /// One step. No call waits for its answer.
+    pub fn step(&mut self) -> Event
+        requires { IsWaiting self.old.phase → ⊥ }
+        ensures shows { (ops : List ℕ → Option Fetched) → ReadsOps ops → (p : OfProgram) (o : Outcome Host) → Shows p self.old o → Shows p self.new (stepped ops p o) }
+        ensures tells { (ops : List ℕ → Option Fetched) → ReadsOps ops → (p : OfProgram) (o : Outcome Host) → Shows p self.old o → Tells result (stepped ops p o) }
+        ensures told { IsTold result self.old self.new }
+        ensures over { (e : Ending) → self.old.phase ≡ Phase.Over e → (result ≡ Event.Ended e) × (self.new ≡ self.old) }
+    {
+        if let Phase::Over(end) = self.phase {
+            return Event::Ended(end);
+        }
+        let event = self.state.step();
+        match event {
+            Event::Went => {}
+            Event::Asked(call) => self.phase = Phase::Waiting(call),
+            Event::Ended(end) => self.phase = Phase::Over(end),
+        }
+        event
+    }
+
+    /// Answers the call that waits.
+    pub fn answer(&mut self, answer: Answer<'_>)
+        requires { IsWaiting self.old.phase }
+        ensures { (p : OfProgram) (call : ListedCall) (next : AnswerValue → Host) → Shows p self.old (Asks call next) → Shows p self.new (Goes (next (answer_value answer.entry))) }
+    {
+        match self.phase {
+            Phase::Waiting(call) => {
+                self.state.resume(call, answer);
+                self.phase = Phase::Going;
+            }
+            _ => unreachable!(),
+        }
+    }
+
+    pub fn space(&self) -> &Space
+        ensures { result.now ≡ self.now.state.parts.space }
+    {
+        &self.state.parts.space
+    }
+
+    /// The value of a register.
+    pub fn reg(&self, r: u8) -> u32
+        requires { IsReg r }
+        ensures { result ≡ slice_index self.now.state.parts.regs r }
+    {
+        self.state.parts.reg(r)
+    }
+}
