@@ -1,0 +1,4 @@
+mod Pieces
+mod Taking
+mod Answering
+mod Runs
