@@ -2,3 +2,4 @@ mod Pieces
 mod Taking
 mod Answering
 mod Runs
+pub mod Whole

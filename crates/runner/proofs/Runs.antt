@@ -1,5 +1,5 @@
 -- A run, step by step.
-use Rattle.std.proofs.Common.{◌≡◌, ◌≤◌, ◌+◌, ◌-◌, ◌^◌, ℕ, zero, suc, min, List, [], ◌∷◌, ◌++◌, length, Option, Some, None, refl, sym, ap, ◌∙◌, arith, add-one, append_assoc}
+use Rattle.std.proofs.Common.{◌≡◌, ◌≢◌, ◌≤◌, ◌+◌, ◌-◌, ◌^◌, ℕ, zero, suc, min, List, [], ◌∷◌, ◌++◌, length, Option, Some, None, refl, sym, ap, ◌∙◌, arith, add-one, append_assoc}
 use Rattle.space.specs.Memory.{Memory}
 use Rattle.space.specs.declared.call.Call.{Call}
 use Rattle.space.specs.declared.call.Event.TheVariants.{Went, Asked, Ended}
@@ -7,7 +7,7 @@ use Rattle.runner.specs.Stepping.{Describes, Tells, GoesOn, Resumes}
 use Rattle.std.proofs.lemmas.List.Sums.{sum_by-append}
 use Rattle.runner.proofs.Answering.{none_rose}
 use Rattle.space.specs.declared.call.End.{End}
-use Rattle.space.specs.declared.call.End.TheVariants.{Running}
+use Rattle.space.specs.declared.call.End.TheVariants.{Running, Dry}
 use Rattle.space.specs.Reports.{ListedCall, AnswerValue}
 use Rattle.runs.specs.Machine.{Outcome, Goes, Asks, Ends, run}
 use Rattle.runner.specs.Answers.{Stream, Input, Output, Errors, Bytes, Transfer, faults_on, IsAnswered, AreAnswered, HasRun}
@@ -84,7 +84,7 @@ resumed Before After m c step (Goes t) shows tells resumes = elim tells [ ]
 resumed Before After m c step (Asks call next) shows tells resumes = resumes step call next shows
 resumed Before After m c step (Ends e) shows tells resumes = elim tells [ ]
 
-add_faults : (stream : Stream) (xs ys : List Transfer) → faults_on stream (xs ++ ys) ≡ faults_on stream xs + faults_on stream ys
+pub add_faults : (stream : Stream) (xs ys : List Transfer) → faults_on stream (xs ++ ys) ≡ faults_on stream xs + faults_on stream ys
 unfolding faults_on
 add_faults stream xs ys = sum_by-append _ xs ys
 
@@ -163,3 +163,8 @@ step_over Shows step s old new b (Some f) e is made = rw (sym (same_end f e is))
 pub step_on : {S : Type 0} (Shows : Outcome S → Type 0) (step : S → Outcome S) (s : S) (old new : Streams) (b : Bytes) (o : Option End) → o ≡ None → Steps Shows step s old new b o → StepMade Shows step s old new b
 step_on Shows step s old new b None is made = made
 step_on Shows step s old new b (Some f) is made = absurd (none_is_some f (sym is))
+
+pub never_dry : {S : Type 0} (m : Memory) (end : End) (o : Outcome S) → Tells m (Ended end) o → end ≢ Dry
+never_dry m end (Goes t) tells = elim tells [ ]
+never_dry m end (Asks call next) tells = elim tells [ ]
+never_dry m end (Ends e) tells = λ dry. tells.1.1 (sym tells.0 ∙ dry)

@@ -111,3 +111,15 @@ pub record HasRun {S : Type 0} (step : S → Outcome S) (start : S) (steps : ℕ
   pub answers : List AnswerValue
   pub attended : AreAnswered (run step steps answers start).calls answers transfers before after
   pub ends : (run step steps answers start).ending ≡ ending
+
+-- no stream failed
+unfoldable pub AreWhole : List Transfer → Type 0
+AreWhole [] = ⊤
+AreWhole (t ∷ ts) = (t.extent ≡ Full) × AreWhole ts
+
+-- the run of so many steps in which every call moves all that it can
+pub record HasWholeRun {S : Type 0} (step : S → Outcome S) (start : S) (steps : ℕ) (before : Bytes) (ending : End) : Type 0 where
+  pub transfers : List Transfer
+  pub after : Bytes
+  pub moved : AreWhole transfers
+  pub runs : HasRun step start steps transfers before after ending

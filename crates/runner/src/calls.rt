@@ -1,6 +1,6 @@
 //! The answers to the calls of a program.
 
-ghost use Rattle.std.specs.Prelude.{◌≡◌, true, false, List, ℕ, OnOk, Some, length};
+ghost use Rattle.std.specs.Prelude.{◌≡◌, ◌≤◌, true, false, List, ℕ, OnOk, Some, length};
 ghost use Rattle.space.specs.Memory.{ArePermitted};
 ghost use Rattle.space.specs.Reports.{ListedCall, Read, Write, Close, AnswerValue};
 ghost use Rattle.runs.specs.Machine.{Outcome, Asks};
@@ -40,6 +40,7 @@ pub fn attend<M: Machine, I: Source, O: Sink, E: Sink>(
         → CallAnswered (M.shows machine.new step) listed next
         (streams_by I.left I.faults O.shown O.faults E.shown E.faults input.old output.old errors.old)
         (streams_by I.left I.faults O.shown O.faults E.shown E.faults input.new output.new errors.new) before) }
+    ensures later { E.faults errors.old ≤ E.faults errors.new }
 {
     match call.kind {
         CallKind::Read => attend_read(alloc, machine, call, input)?,
@@ -90,6 +91,7 @@ fn attend_write<M: Machine, O: Sink, E: Sink>(
         → CallAnswered (M.shows machine.new step) (Write call.fd bytes) next
         (with_errors E.shown E.faults (with_output O.shown O.faults s output.old) errors.old)
         (with_errors E.shown E.faults (with_output O.shown O.faults s output.new) errors.new) before }
+    ensures later { E.faults errors.old ≤ E.faults errors.new }
 {
     match call.fd {
         1 => write(machine, call, output),
@@ -143,6 +145,7 @@ fn write<M: Machine, S: Sink>(machine: &mut M, call: Call, sink: &mut S)
         → M.shows machine.old step (Asks listed next) → length bytes ≡ call.count → StandAt (M.memory machine.old) call.at bytes
         → S.shown sink.old ≡ Some shown
         → WriteAnswered (M.shows machine.new step) next bytes shown (S.shown sink.new) (S.faults sink.old) (S.faults sink.new) }
+    ensures later { S.faults sink.old ≤ S.faults sink.new }
 {
     match put_from(machine.space(), call.at, call.count, sink) {
         Ok(()) => machine.answer(Answer::Took(call.count)),

@@ -1,6 +1,6 @@
 //! A run of so many steps at most.
 
-ghost use Rattle.std.specs.Prelude.{◌≡◌, false, None, IfOk};
+ghost use Rattle.std.specs.Prelude.{◌≡◌, ◌≢◌, ◌≤◌, false, None, IfOk, IfSome};
 ghost use Rattle.runs.specs.Machine.{Outcome, Goes};
 ghost use Rattle.runner.specs.Answers.{Bytes};
 ghost use Rattle.runner.specs.Stepping.{GoesOn};
@@ -25,12 +25,14 @@ pub fn run<M: Machine, I: Source, O: Sink, E: Sink>(
 ) -> Result<End, NoMemory>
     requires free { M.waits machine.old ≡ false }
     requires stands { GoesOn (M.shows machine.old) }
-    ensures { IfOk result (λ ending. (step : M.State → Outcome M.State) (start : M.State) (before : Bytes)
+    ensures answered { IfOk result (λ ending. ending ≢ End.Dry) }
+    ensures attended { IfOk result (λ ending. (step : M.State → Outcome M.State) (start : M.State) (before : Bytes)
         → M.shows machine.old step (Goes start)
         → Told (streams_by I.left I.faults O.shown O.faults E.shown E.faults input.old output.old errors.old) before
         → Attended step start steps
         (streams_by I.left I.faults O.shown O.faults E.shown E.faults input.old output.old errors.old)
         (streams_by I.left I.faults O.shown O.faults E.shown E.faults input.new output.new errors.new) before ending) }
+    ensures later { E.faults errors.old ≤ E.faults errors.new }
 {
     for _ in 0..steps {
         match make_step(alloc, machine, input, output, errors)? {
@@ -53,12 +55,14 @@ fn make_step<M: Machine, I: Source, O: Sink, E: Sink>(
     requires stands { GoesOn (M.shows machine.old) }
     ensures free { IfOk result (λ ended. M.waits machine.new ≡ false) }
     ensures goes { IfOk result (λ ended. ended ≡ None → GoesOn (M.shows machine.new)) }
+    ensures answered { IfOk result (λ ended. IfSome ended (λ ending. ending ≢ End.Dry)) }
     ensures made { IfOk result (λ ended. (step : M.State → Outcome M.State) (s : M.State) (before : Bytes)
         → M.shows machine.old step (Goes s)
         → Told (streams_by I.left I.faults O.shown O.faults E.shown E.faults input.old output.old errors.old) before
         → Steps (M.shows machine.new step) step s
         (streams_by I.left I.faults O.shown O.faults E.shown E.faults input.old output.old errors.old)
         (streams_by I.left I.faults O.shown O.faults E.shown E.faults input.new output.new errors.new) before ended) }
+    ensures later { E.faults errors.old ≤ E.faults errors.new }
 {
     match machine.step() {
         Event::Went => Ok(None),

@@ -2,7 +2,7 @@ use Rattle.std.proofs.Common.{refl}
 use Rattle.runs.specs.Machine.{Goes, Asks}
 use Rattle.runner.specs.Attending.{streams_by}
 use Rattle.runner.specs.Stepping.{stepped}
-use Rattle.runner.proofs.Runs.{went, asked, over, went_on, resumed}
+use Rattle.runner.proofs.Runs.{went, asked, over, went_on, resumed, never_dry}
 use Rattle.runner.proofs.running.make_step.Goals as goal
 
 pub returns-in-Went-clause-made : goal.returns-in-Went-clause-made
@@ -33,3 +33,8 @@ pub returns-in_ok-attend-in-Asked-clause-goes : goal.returns-in_ok-attend-in-Ask
 returns-in_ok-attend-in-Asked-clause-goes g c = λ none.
     let made = c.in-Asked.ensures.steps c.requires.stands.0 (Goes c.requires.stands.1) c.requires.stands.2 in
     resumed (g.M.Machine.shows c.step.new.self) (g.M.Machine.shows c.attend.new.machine) (g.M.Machine.memory c.step.new.self) c.in-Asked.call c.requires.stands.0 _ made.0 made.1 c.in_ok-attend-in-Asked.ensures.goes
+
+pub returns-in-Ended-clause-answered : goal.returns-in-Ended-clause-answered
+returns-in-Ended-clause-answered g c =
+    let made = c.in-Ended.ensures.steps c.requires.stands.0 (Goes c.requires.stands.1) c.requires.stands.2 in
+    never_dry (g.M.Machine.memory c.step.new.self) c.in-Ended.end _ made.1

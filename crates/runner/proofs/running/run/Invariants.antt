@@ -1,4 +1,4 @@
-use Rattle.std.proofs.Common.{◌≡◌, false, ◌-◌}
+use Rattle.std.proofs.Common.{◌≡◌, ◌≤◌, false, ◌-◌}
 use Rattle.runs.specs.Machine.{Outcome, Goes}
 use Rattle.runner.specs.Answers.{Bytes}
 use Rattle.runner.specs.Attending.{streams_by, Told}
@@ -8,6 +8,7 @@ use Rattle.runner.proofs.running.run.Given as goal
 
 abbrev pub invariant-loop : goal.invariant-loop
 invariant-loop g l = record {
+  later : g.E.Sink.faults l.initial.errors ≤ g.E.Sink.faults l.errors;
   free : g.M.Machine.waits l.machine ≡ false;
   stands : GoesOn (g.M.Machine.shows l.machine);
   reached : (step : g.M.Machine.State → Outcome g.M.Machine.State) (start : g.M.Machine.State) (before : Bytes)
