@@ -1,0 +1,5 @@
+mod Pieces
+mod Taking
+mod Answering
+mod Runs
+pub mod Whole

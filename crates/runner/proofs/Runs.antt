@@ -1,0 +1,170 @@
+-- A run, step by step.
+use Rattle.std.proofs.Common.{◌≡◌, ◌≢◌, ◌≤◌, ◌+◌, ◌-◌, ◌^◌, ℕ, zero, suc, min, List, [], ◌∷◌, ◌++◌, length, Option, Some, None, refl, sym, ap, ◌∙◌, arith, add-one, append_assoc}
+use Rattle.space.specs.Memory.{Memory}
+use Rattle.space.specs.declared.call.Call.{Call}
+use Rattle.space.specs.declared.call.Event.TheVariants.{Went, Asked, Ended}
+use Rattle.runner.specs.Stepping.{Describes, Tells, GoesOn, Resumes}
+use Rattle.std.proofs.lemmas.List.Sums.{sum_by-append}
+use Rattle.runner.proofs.Answering.{none_rose}
+use Rattle.space.specs.declared.call.End.{End}
+use Rattle.space.specs.declared.call.End.TheVariants.{Running, Dry}
+use Rattle.space.specs.Reports.{ListedCall, AnswerValue}
+use Rattle.runs.specs.Machine.{Outcome, Goes, Asks, Ends, run}
+use Rattle.runner.specs.Answers.{Stream, Input, Output, Errors, Bytes, Transfer, faults_on, IsAnswered, AreAnswered, HasRun}
+use Rattle.runner.specs.Attending.{Streams, Told, RoseBy, HasCounted, Attended, CallAnswered, StepMade, IsOver, Steps}
+
+module _ {S : Type 0} (step : S → Outcome S) where
+  pub run_none : (s : S) (b : Bytes) → HasRun step s 0 [] b b Running
+  unfolding AreAnswered
+  run_none s b = record { answers = []; attended = (refl, refl); ends = refl }
+
+  pub run_ends : (s : S) (n : ℕ) (b : Bytes) (e : End) → step s ≡ Ends e → HasRun step s (suc n) [] b b e
+  unfolding AreAnswered
+  run_ends s n b e ended = record { answers = []; attended = rw ended (refl, refl); ends = rw ended refl }
+
+  pub run_goes : (s t : S) (n : ℕ) (ts : List Transfer) (b a : Bytes) (e : End) → step s ≡ Goes t → HasRun step t n ts b a e → HasRun step s (suc n) ts b a e
+  run_goes s t n ts b a e goes r = record { answers = r.answers; attended = rw goes r.attended; ends = rw goes r.ends }
+
+  pub run_asks : (s : S) (n : ℕ) (call : ListedCall) (next : AnswerValue → S) (answer : AnswerValue) (first later : List Transfer) (b m a : Bytes) (e : End) → step s ≡ Asks call next → IsAnswered call answer first b m → HasRun step (next answer) n later m a e → HasRun step s (suc n) (first ++ later) b a e
+  unfolding AreAnswered
+  run_asks s n call next answer first later b m a e asks now r = record {
+    answers = answer ∷ r.answers;
+    attended = rw asks (record { first = first; later = later; middle = m; parts = refl; now = now; next = r.attended });
+    ends = rw asks r.ends;
+  }
+
+pub nothing_counted : (s : Streams) → HasCounted s s []
+unfolding faults_on
+nothing_counted s = record { input = none_rose _; output = none_rose _; errors = none_rose _ }
+
+module _ {S : Type 0} (Shows : Outcome S → Type 0) (step : S → Outcome S) (s : S) where
+  pub went : (m : Memory) (streams : Streams) (b : Bytes) (o : Outcome S) → step s ≡ o → Told streams b → Shows o → Tells m Went o → StepMade Shows step s streams streams b
+  went m streams b (Goes t) is told shows tells = record {
+    next = t;
+    transfers = [];
+    after = b;
+    shows = shows;
+    told = told;
+    counted = nothing_counted streams;
+    continues = λ n later last e run. rw (add-one n) (run_goes step s t n later b last e is run);
+  }
+  went m streams b (Asks call next) is told shows tells = elim tells [ ]
+  went m streams b (Ends e) is told shows tells = elim tells [ ]
+
+  pub asked : (Before : Outcome S → Type 0) (m : Memory) (c : Call) (old new : Streams) (b : Bytes) (o : Outcome S) → step s ≡ o → Before o → Tells m (Asked c) o
+      → ((listed : ListedCall) (next : AnswerValue → S) → Before (Asks listed next) → Describes m c listed → CallAnswered Shows listed next old new b)
+      → StepMade Shows step s old new b
+  asked Before m c old new b (Goes t) is shown tells answers = elim tells [ ]
+  asked Before m c old new b (Asks call next) is shown tells answers =
+      let a = answers call next shown tells in
+      record {
+        next = next a.answer;
+        transfers = a.transfers;
+        after = a.after;
+        shows = a.shows;
+        told = a.told;
+        counted = a.counted;
+        continues = λ n later last e run. rw (add-one n) (run_asks step s n call next a.answer a.transfers later b a.after last e is a.answered run);
+      }
+  asked Before m c old new b (Ends e) is shown tells answers = elim tells [ ]
+
+  pub over : (m : Memory) (streams : Streams) (b : Bytes) (end : End) (o : Outcome S) → step s ≡ o → Told streams b → Tells m (Ended end) o → IsOver step s end streams streams b
+  over m streams b end (Goes t) is told tells = elim tells [ ]
+  over m streams b end (Asks call next) is told tells = elim tells [ ]
+  over m streams b end (Ends e) is told tells = record { ends = is ∙ ap Ends (sym tells.0); told = told; counted = nothing_counted streams }
+
+-- a run that went on, or whose call was answered, goes on
+pub went_on : {S : Type 0} (Shows : (S → Outcome S) → Outcome S → Type 0) (m : Memory) (step : S → Outcome S) (o : Outcome S) → Shows step o → Tells m Went o → GoesOn Shows
+went_on Shows m step (Goes t) shows tells = (step, t, shows)
+went_on Shows m step (Asks call next) shows tells = elim tells [ ]
+went_on Shows m step (Ends e) shows tells = elim tells [ ]
+
+pub resumed : {S : Type 0} (Before After : (S → Outcome S) → Outcome S → Type 0) (m : Memory) (c : Call) (step : S → Outcome S) (o : Outcome S) → Before step o → Tells m (Asked c) o → Resumes Before After → GoesOn After
+resumed Before After m c step (Goes t) shows tells resumes = elim tells [ ]
+resumed Before After m c step (Asks call next) shows tells resumes = resumes step call next shows
+resumed Before After m c step (Ends e) shows tells resumes = elim tells [ ]
+
+pub add_faults : (stream : Stream) (xs ys : List Transfer) → faults_on stream (xs ++ ys) ≡ faults_on stream xs + faults_on stream ys
+unfolding faults_on
+add_faults stream xs ys = sum_by-append _ xs ys
+
+rose_on : (n k a b c : ℕ) → RoseBy n a b → RoseBy k b c → RoseBy (n + k) a c
+rose_on n k a b c first second = grind arith
+
+pub counted_on : (a b c : Streams) (xs ys : List Transfer) → HasCounted a b xs → HasCounted b c ys → HasCounted a c (xs ++ ys)
+counted_on a b c xs ys first second = record {
+  input = rw (add_faults Input xs ys) (rose_on _ _ _ _ _ first.input second.input);
+  output = rw (add_faults Output xs ys) (rose_on _ _ _ _ _ first.output second.output);
+  errors = rw (add_faults Errors xs ys) (rose_on _ _ _ _ _ first.errors second.errors);
+}
+
+-- after some steps the run stands at s, and what follows from there is the rest of the run
+pub record Reached {S : Type 0} (Shows : Outcome S → Type 0) (step : S → Outcome S) (start : S) (steps left : ℕ) (old now : Streams) (before : Bytes) : Type 0 where
+  pub s : S
+  pub done : List Transfer
+  pub middle : Bytes
+  pub shows : Shows (Goes s)
+  pub told : Told now middle
+  pub counted : HasCounted old now done
+  pub continues : (later : List Transfer) (after : Bytes) (e : End) → HasRun step s left later middle after e → HasRun step start steps (done ++ later) before after e
+
+pub reached_start : {S : Type 0} (Shows : Outcome S → Type 0) (step : S → Outcome S) (start : S) (steps left : ℕ) (old : Streams) (before : Bytes) → left ≡ steps → Shows (Goes start) → Told old before → Reached Shows step start steps left old old before
+reached_start Shows step start steps left old before all shows told = record {
+  s = start;
+  done = [];
+  middle = before;
+  shows = shows;
+  told = told;
+  counted = nothing_counted old;
+  continues = λ later after e run. rw (sym all) run;
+}
+
+pub reached_more : {S : Type 0} (Shows Later : Outcome S → Type 0) (step : S → Outcome S) (start : S) (steps more left : ℕ) (old now new : Streams) (before : Bytes) → more ≡ left + 1 → (r : Reached Shows step start steps more old now before) → StepMade Later step r.s now new r.middle → Reached Later step start steps left old new before
+reached_more Shows Later step start steps more left old now new before one r m = record {
+  s = m.next;
+  done = r.done ++ m.transfers;
+  middle = m.after;
+  shows = m.shows;
+  told = m.told;
+  counted = counted_on old now new r.done m.transfers r.counted m.counted;
+  continues = λ later after e run. rw (append_assoc r.done m.transfers later) (r.continues (m.transfers ++ later) after e (rw one (m.continues left later after e run)));
+}
+
+pub attended_over : {S : Type 0} (Shows : Outcome S → Type 0) (step : S → Outcome S) (start : S) (steps more left : ℕ) (old now new : Streams) (before : Bytes) (e : End) → more ≡ left + 1 → (r : Reached Shows step start steps more old now before) → IsOver step r.s e now new r.middle → Attended step start steps old new before e
+attended_over Shows step start steps more left old now new before e one r o = record {
+  transfers = r.done ++ [];
+  after = r.middle;
+  runs = r.continues [] r.middle e (rw (one, add-one left) (run_ends step r.s left r.middle e o.ends));
+  told = o.told;
+  counted = counted_on old now new r.done [] r.counted o.counted;
+}
+
+pub attended_running : {S : Type 0} (Shows : Outcome S → Type 0) (step : S → Outcome S) (start : S) (steps left : ℕ) (old now : Streams) (before : Bytes)
+    → left ≡ 0 → Reached Shows step start steps left old now before → Attended step start steps old now before Running
+attended_running Shows step start steps left old now before none r = record {
+  transfers = r.done ++ [];
+  after = r.middle;
+  runs = r.continues [] r.middle Running (rw none (run_none step r.s r.middle));
+  told = r.told;
+  counted = counted_on old now now r.done [] r.counted (nothing_counted now);
+}
+
+none_is_some : (e : End) → None ≡ Some e → ⊥
+none_is_some e is = grind arith
+
+same_end : (f e : End) → Some f ≡ Some e → f ≡ e
+same_end f e is = grind arith
+
+-- what a step was, by its answer
+pub step_over : {S : Type 0} (Shows : Outcome S → Type 0) (step : S → Outcome S) (s : S) (old new : Streams) (b : Bytes) (o : Option End) (e : End) → o ≡ Some e → Steps Shows step s old new b o → IsOver step s e old new b
+step_over Shows step s old new b None e is made = absurd (none_is_some e is)
+step_over Shows step s old new b (Some f) e is made = rw (sym (same_end f e is)) made
+
+pub step_on : {S : Type 0} (Shows : Outcome S → Type 0) (step : S → Outcome S) (s : S) (old new : Streams) (b : Bytes) (o : Option End) → o ≡ None → Steps Shows step s old new b o → StepMade Shows step s old new b
+step_on Shows step s old new b None is made = made
+step_on Shows step s old new b (Some f) is made = absurd (none_is_some f (sym is))
+
+pub never_dry : {S : Type 0} (m : Memory) (end : End) (o : Outcome S) → Tells m (Ended end) o → end ≢ Dry
+never_dry m end (Goes t) tells = elim tells [ ]
+never_dry m end (Asks call next) tells = elim tells [ ]
+never_dry m end (Ends e) tells = λ dry. tells.1.1 (sym tells.0 ∙ dry)

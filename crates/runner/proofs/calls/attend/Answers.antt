@@ -1,0 +1,16 @@
+use Rattle.std.proofs.Common.{sym}
+use Rattle.runner.specs.Attending.{streams_by}
+use Rattle.runner.proofs.Answering.{ListedWrite, listed_read, listed_write}
+use Rattle.runner.proofs.calls.attend.Goals as goal
+
+pub returns-in_ok-attend_read-in-Read-clause-answered :
+    goal.returns-in_ok-attend_read-in-Read-clause-answered
+returns-in_ok-attend_read-in-Read-clause-answered g c = λ step listed next before shows describes told.
+    let e = listed_read (g.M.Machine.memory c.args.machine.now) c.args.call listed c.in-Read.is describes in
+    rw e (c.in_ok-attend_read-in-Read.ensures.answered step next (streams_by g.I.Source.left g.I.Source.faults g.O.Sink.shown g.O.Sink.faults g.E.Sink.shown g.E.Sink.faults c.args.input.now c.args.output.now c.args.errors.now) before (rw (sym e) shows) told)
+
+pub returns-in-Write-clause-answered : goal.returns-in-Write-clause-answered
+returns-in-Write-clause-answered g c = λ step listed next before shows describes told.
+    let w = listed_write (g.M.Machine.memory c.args.machine.now) c.args.call listed c.in-Write.is describes in
+    let e = w.is in
+    rw e (c.attend_write.ensures.answered step w.bytes next (streams_by g.I.Source.left g.I.Source.faults g.O.Sink.shown g.O.Sink.faults g.E.Sink.shown g.E.Sink.faults c.args.input.now c.args.output.now c.args.errors.now) before (rw (sym e) shows) w.count w.stand told)
