@@ -59,21 +59,20 @@ gate_says ns w h j n e = h j n e
 module _ (ns : List Node) (P : ℕ → Type 0) (v : ℕ → Bool) (o : IsOrdered ns)
     (says : (j : ℕ) (n : Node) → slice_get ns j ≡ Some n → P (j + 1) → GateSays n (v (j + 1)) v)
     (reads : (j : ℕ) (n : Node) (z : ℤ) → slice_get ns j ≡ Some n → P (j + 1) → Contains (inputs_of n) z → P (variable z))
-    where
-
-  pub kept : (m k : ℕ) → k ≤ m → k ≤ length ns → P k → extended gate_truth 0 ns v k ≡ v k
-  kept zero k h l p = extended_kept gate_truth 0 ns v k h
-  kept (suc m) zero h l p = extended_kept gate_truth 0 ns v zero (omega arith)
-  kept (suc m) (suc j) h l p =
-      let w = extended gate_truth 0 ns v in
-      let n = get_or ns j (Input 0) in
-      let e : slice_get ns j ≡ Some n = slice_get-get_or ns j (Input 0) (omega arith) in
-      let y : suc j ≡ j + 1 = omega arith in
-      let z : 0 + j + 1 ≡ j + 1 = omega arith in
-      let q = subst P y p in
-      let r = o.reads j n e in
-      let g : GateSays n (w (j + 1)) w = gate_says ns w (gates_extend ns v o) j n e in
-      subst (λ i. w i ≡ v i) (sym y) (node_alike n (w (j + 1)) (v (j + 1)) v w g (says j n e q)
+  where
+    pub kept : (m k : ℕ) → k ≤ m → k ≤ length ns → P k → extended gate_truth 0 ns v k ≡ v k
+    kept zero k h l p = extended_kept gate_truth 0 ns v k h
+    kept (suc m) zero h l p = extended_kept gate_truth 0 ns v zero (omega arith)
+    kept (suc m) (suc j) h l p =
+        let w = extended gate_truth 0 ns v in
+        let n = get_or ns j (Input 0) in
+        let e : slice_get ns j ≡ Some n = slice_get-get_or ns j (Input 0) (omega arith) in
+        let y : suc j ≡ j + 1 = omega arith in
+        let z : 0 + j + 1 ≡ j + 1 = omega arith in
+        let q = subst P y p in
+        let r = o.reads j n e in
+        let g : GateSays n (w (j + 1)) w = gate_says ns w (gates_extend ns v o) j n e in
+        subst (λ i. w i ≡ v i) (sym y) (node_alike n (w (j + 1)) (v (j + 1)) v w g (says j n e q)
         (λ u i. let a = input_reach n u i in let b = variable_reach u in literal_alike u v w (kept m (variable u) (omega (arith, a, b, r)) (omega (arith, a, b, r)) (reads j n u e q i)))
         (λ t. subst (λ i. w i ≡ v i) z (extended_input gate_truth 0 ns v j n t e)))
 
@@ -136,7 +135,6 @@ pub record AreDifferences (old new : List Node) (pairs : List (Lit × Lit)) (ls 
   pub pairs_owned : AreOwned (length old) pairs
 
 module _ (old new : List Node) (pairs : List (Lit × Lit)) (ls : List Lit) (d : AreDifferences old new pairs ls) where
-
   -- a difference that is true where the gates fit
   differ_at : (w : ℕ → Bool) (k : ℕ) → GatesAgree new w → k < length ls → lit_truth (at ls k) w ≡ true → CanDiffer old pairs
   differ_at w k g l t =
@@ -172,23 +170,25 @@ module _ (old new : List Node) (pairs : List (Lit × Lit)) (ls : List Lit) (d : 
       let reach : IsReached new final (variable z) = named (variable z) (some.0, z, some.2, some.3, refl) in
       let within = reached_within new final o final_reach (variable z) reach in
       let same_truth = kept new (λ k. IsReached new final k) v o
-        (λ j n e p. let y : 1 + j ≡ j + 1 = omega arith in let r = o.reads j n e in let l = slice_get_within new j n e in
-            subst (λ k. GateSays n (v k) v) y (gate_from_clauses n (1 + j) v (omega arith) (omega (arith, r, l, small)) (chosen_out v reached 1 new j n gates e (subst (λ k. reached k ≡ true) (sym y) ((iff (j + 1)).1 p)))))
-        (λ j n u e p i. read (variable u) j n p e (i.0, u, i.1, i.2, refl))
-        (variable z) (variable z) (omega arith) within reach in
+      (λ j n e p. let y : 1 + j ≡ j + 1 = omega arith in let r = o.reads j n e in let l = slice_get_within new j n e in
+      subst (λ k. GateSays n (v k) v) y (gate_from_clauses n (1 + j) v (omega arith) (omega (arith, r, l, small)) (chosen_out v reached 1 new j n gates e (subst (λ k. reached k ≡ true) (sym y) ((iff (j + 1)).1 p)))))
+      (λ j n u e p i. read (variable u) j n p e (i.0, u, i.1, i.2, refl))
+      (variable z) (variable z) (omega arith) within reach in
       let at_z = variable_from ls z there.0 there.1 there.2 in
       let t : literal_truth z w ≡ true = literal_alike z v w same_truth ∙ some.4 in
       differ_at w at_z.0 (gates_extend new v o) at_z.1 (ap (λ l. lit_truth l w) at_z.2 ∙ t)
 
   -- an assignment that fits the earlier gates keeps their variables when it is completed
   old_kept : (v : ℕ → Bool) → GatesAgree old v → SameBelow (length old) (extended gate_truth 0 new v) v
-  old_kept v g = record { same_at = λ k h. let grows = d.grows in kept new (λ j. j ≤ length old) v d.ordered
-      (λ j n e p. let u = get_or old j (Input 0) in
-          let f : slice_get old j ≡ Some u = slice_get-get_or old j (Input 0) (omega arith) in
-          let q : u ≡ n = let s = d.keeps j u f in cc in
-          gate_says old v g j n (subst (λ m. slice_get old j ≡ Some m) q f))
-      (λ j n z e p i. let r = d.ordered.reads j n e in let a = input_reach n z i in let b = variable_reach z in omega (arith, r, a, b, p))
-      k k (omega arith) (omega arith) h }
+  old_kept v g = record {
+    same_at = λ k h. let grows = d.grows in kept new (λ j. j ≤ length old) v d.ordered
+        (λ j n e p. let u = get_or old j (Input 0) in
+        let f : slice_get old j ≡ Some u = slice_get-get_or old j (Input 0) (omega arith) in
+        let q : u ≡ n = let s = d.keeps j u f in cc in
+        gate_says old v g j n (subst (λ m. slice_get old j ≡ Some m) q f))
+        (λ j n z e p i. let r = d.ordered.reads j n e in let a = input_reach n z i in let b = variable_reach z in omega (arith, r, a, b, p))
+        k k (omega arith) (omega arith) h;
+  }
 
   -- what the gates of a formula with a final clause say
   formula_from : (w : ℕ → Bool) (reached : ℕ → Bool) (z : ℤ) → GatesAgree new w → Contains (filter_map signed_variable ls) z → literal_truth z w ≡ true
@@ -198,9 +198,9 @@ module _ (old new : List Node) (pairs : List (Lit × Lit)) (ls : List Lit) (d : 
       let final = filter_map signed_variable ls in
       let small = d.small in
       All-append P (chosen_clauses reached 1 new) (final ∷ [])
-        (chosen_in w reached 1 new (λ j n e r. let y : j + 1 ≡ 1 + j = omega arith in let a = d.ordered.reads j n e in let l = slice_get_within new j n e in
-            clauses_from_gate n (1 + j) w (omega arith) (omega (arith, a, l, small)) (subst (λ k. GateSays n (w k) w) y (gate_says new w g j n e))))
-        (All-cons P final [] (c.0, z, c.1, c.2, t) (All-nil P))
+      (chosen_in w reached 1 new (λ j n e r. let y : j + 1 ≡ 1 + j = omega arith in let a = d.ordered.reads j n e in let l = slice_get_within new j n e in
+      clauses_from_gate n (1 + j) w (omega arith) (omega (arith, a, l, small)) (subst (λ k. GateSays n (w k) w) y (gate_says new w g j n e))))
+      (All-cons P final [] (c.0, z, c.1, c.2, t) (All-nil P))
 
   literal_of : (l : Lit) (w : ℕ → Bool) (k : ℕ) → k < length ls → at ls k ≡ l → list_any is_true ls ≡ false → lit_truth l w ≡ true → (z : ℤ) × Contains (filter_map signed_variable ls) z × (literal_truth z w ≡ true)
   literal_of (Const true) w k h e f t = let a = list_any_at is_true ls k (Const false) h (ap is_true e) in absurd cc

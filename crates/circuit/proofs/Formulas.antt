@@ -49,16 +49,16 @@ cons_named m c cs p q = All-cons (λ k. All (λ z. IsNamed m z) k) c cs p q
 and_named : (m : ℕ) (v x y nv nx ny : ℤ) → IsNamed m v → IsNamed m x → IsNamed m y → IsNamed m nv → IsNamed m nx → IsNamed m ny → AllNamed m ((nv ∷ x ∷ []) ∷ (nv ∷ y ∷ []) ∷ (v ∷ nx ∷ ny ∷ []) ∷ [])
 and_named m v x y nv nx ny p q r np nq nr =
     cons_named m (nv ∷ x ∷ []) ((nv ∷ y ∷ []) ∷ (v ∷ nx ∷ ny ∷ []) ∷ []) (pair_named m nv x np q)
-      (cons_named m (nv ∷ y ∷ []) ((v ∷ nx ∷ ny ∷ []) ∷ []) (pair_named m nv y np r)
-      (cons_named m (v ∷ nx ∷ ny ∷ []) [] (triple_named m v nx ny p nq nr) (All-nil (λ k. All (λ z. IsNamed m z) k))))
+    (cons_named m (nv ∷ y ∷ []) ((v ∷ nx ∷ ny ∷ []) ∷ []) (pair_named m nv y np r)
+    (cons_named m (v ∷ nx ∷ ny ∷ []) [] (triple_named m v nx ny p nq nr) (All-nil (λ k. All (λ z. IsNamed m z) k))))
 
 xor_named : (m : ℕ) (v x y nv nx ny : ℤ) → IsNamed m v → IsNamed m x → IsNamed m y → IsNamed m nv → IsNamed m nx → IsNamed m ny
     → AllNamed m ((nv ∷ x ∷ y ∷ []) ∷ (nv ∷ nx ∷ ny ∷ []) ∷ (v ∷ nx ∷ y ∷ []) ∷ (v ∷ x ∷ ny ∷ []) ∷ [])
 xor_named m v x y nv nx ny p q r np nq nr =
     cons_named m (nv ∷ x ∷ y ∷ []) ((nv ∷ nx ∷ ny ∷ []) ∷ (v ∷ nx ∷ y ∷ []) ∷ (v ∷ x ∷ ny ∷ []) ∷ []) (triple_named m nv x y np q r)
-      (cons_named m (nv ∷ nx ∷ ny ∷ []) ((v ∷ nx ∷ y ∷ []) ∷ (v ∷ x ∷ ny ∷ []) ∷ []) (triple_named m nv nx ny np nq nr)
-      (cons_named m (v ∷ nx ∷ y ∷ []) ((v ∷ x ∷ ny ∷ []) ∷ []) (triple_named m v nx y p nq r)
-      (cons_named m (v ∷ x ∷ ny ∷ []) [] (triple_named m v x ny p q nr) (All-nil (λ k. All (λ z. IsNamed m z) k)))))
+    (cons_named m (nv ∷ nx ∷ ny ∷ []) ((v ∷ nx ∷ y ∷ []) ∷ (v ∷ x ∷ ny ∷ []) ∷ []) (triple_named m nv nx ny np nq nr)
+    (cons_named m (v ∷ nx ∷ y ∷ []) ((v ∷ x ∷ ny ∷ []) ∷ []) (triple_named m v nx y p nq r)
+    (cons_named m (v ∷ x ∷ ny ∷ []) [] (triple_named m v x ny p q nr) (All-nil (λ k. All (λ z. IsNamed m z) k)))))
 
 gate_named : (n : Node) (v m : ℕ) → 0 < v → v ≤ m → node_reach n ≤ m → m < 2 ^ 31 → AllNamed m (gate_clauses (pos v) n)
 gate_named (Input i) v m a b c d = All-nil (λ c. All (λ z. IsNamed m z) c)
@@ -81,16 +81,16 @@ unfolding chosen_clauses
 chosen_named chosen v m [] a b c h = All-nil (λ c. All (λ z. IsNamed m z) c)
 chosen_named chosen v m (n ∷ ns) a b c h =
     All-append (λ c. All (λ z. IsNamed m z) c) (cond (chosen v) (gate_clauses (pos v) n) []) (chosen_clauses chosen (v + 1) ns)
-      (cond_named m (chosen v) (gate_clauses (pos v) n) (gate_named n v m a (omega arith) (h zero n refl) c))
-      (chosen_named chosen (v + 1) m ns (omega arith) (omega arith) c (λ j k e. h (suc j) k e))
+    (cond_named m (chosen v) (gate_clauses (pos v) n) (gate_named n v m a (omega arith) (h zero n refl) c))
+    (chosen_named chosen (v + 1) m ns (omega arith) (omega arith) c (λ j k e. h (suc j) k e))
 
 all_named : (ns : List Node) (last : Option (List ℤ)) (clauses : List (List ℤ)) → IsOrdered ns → length ns < 2 ^ 31 → IfSome last (λ c. All (λ z. signed_reach z ≤ length ns) c) → AreClausesFor ns last clauses → AllNamed (length ns) clauses
 all_named ns None clauses o l h a = subst (AllNamed (length ns)) (sym a) (All-nil (λ c. All (λ z. IsNamed (length ns) z) c))
 all_named ns (Some final) clauses o l h a =
     let C = λ (k : List ℤ). All (λ z. IsNamed (length ns) z) k in
     subst (AllNamed (length ns)) (sym a.2) (All-append C (chosen_clauses a.0 1 ns) (final ∷ [])
-      (chosen_named a.0 1 (length ns) ns (omega arith) (omega arith) l (λ j n e. let r = o.reads j n e in let w = slice_get_within ns j n e in omega (arith, r, w)))
-      (All-cons C final [] (All-weaker (λ z. signed_reach z ≤ length ns) (λ z. IsNamed (length ns) z) (λ z k. named_of (length ns) z k l) final h) (All-nil C)))
+    (chosen_named a.0 1 (length ns) ns (omega arith) (omega arith) l (λ j n e. let r = o.reads j n e in let w = slice_get_within ns j n e in omega (arith, r, w)))
+    (All-cons C final [] (All-weaker (λ z. signed_reach z ≤ length ns) (λ z. IsNamed (length ns) z) (λ z k. named_of (length ns) z k l) final h) (All-nil C)))
 
 literals_of : (m : ℕ) (clauses : List (List ℤ)) → m < 2 ^ 31 → AllNamed m clauses → All (λ c. All IsLiteral c) clauses
 literals_of m clauses l h = All-weaker (λ c. All (λ z. IsNamed m z) c) (λ c. All IsLiteral c)
@@ -109,5 +109,5 @@ final_owned ls m h = elim (two_cases (list_any is_true ls)) [
   | inl t ↦ subst (λ o. IfSome o (λ c. All (λ z. signed_reach z ≤ m) c)) (sym (final_none ls t)) tt
   | inr f ↦ let final = filter_map signed_variable ls in
       subst (λ o. IfSome o (λ c. All (λ z. signed_reach z ≤ m) c)) (sym (final_some ls f))
-        (All-weaker (Contains final) (λ z. signed_reach z ≤ m) (λ z i. let a = variable_from ls z i.0 i.1 i.2 in subst (λ l. lit_reach l ≤ m) a.2 (h a.0 a.1)) final (All-contains_itself final))
+      (All-weaker (Contains final) (λ z. signed_reach z ≤ m) (λ z i. let a = variable_from ls z i.0 i.1 i.2 in subst (λ l. lit_reach l ≤ m) a.2 (h a.0 a.1)) final (All-contains_itself final))
 ]

@@ -174,6 +174,6 @@ chosen_in w chosen v [] h = All-nil (λ k. Holding w k)
 chosen_in w chosen v (m ∷ ms) h =
     let z : v + zero ≡ v = omega arith in
     All-append (λ k. Holding w k) (cond (chosen v) (gate_clauses (pos v) m) []) (chosen_clauses chosen (v + 1) ms)
-      (satisfies_cond w (chosen v) (gate_clauses (pos v) m) (λ c. subst (λ k. Satisfies w (gate_clauses (pos k) m)) z (h zero m refl (subst (λ k. chosen k ≡ true) (sym z) c))))
-      (chosen_in w chosen (v + 1) ms (λ j n e c. let y : v + suc j ≡ v + 1 + j = omega arith in
-          subst (λ k. Satisfies w (gate_clauses (pos k) n)) y (h (suc j) n e (subst (λ k. chosen k ≡ true) (sym y) c))))
+    (satisfies_cond w (chosen v) (gate_clauses (pos v) m) (λ c. subst (λ k. Satisfies w (gate_clauses (pos k) m)) z (h zero m refl (subst (λ k. chosen k ≡ true) (sym z) c))))
+    (chosen_in w chosen (v + 1) ms (λ j n e c. let y : v + suc j ≡ v + 1 + j = omega arith in
+    subst (λ k. Satisfies w (gate_clauses (pos k) n)) y (h (suc j) n e (subst (λ k. chosen k ≡ true) (sym y) c))))

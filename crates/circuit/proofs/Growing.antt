@@ -31,7 +31,7 @@ grown_signed eq ns x y = grown_pair eq ns (pos (unsigned_abs x)) (pos (unsigned_
 grown_vars : (eq : Node → Node → Bool) (ns : List Node) (x y : ℤ) → Grown ns (xor_vars_made eq ns x y).held
 grown_vars eq ns x y =
     grown_cond ns (int_eq x y) (record { flag = Const false; held = ns }) (cond (int_eq x (neg_ℤ y)) (record { flag = Const true; held = ns }) (xor_signed_made eq ns x y)) (λ k n h. h)
-      (grown_cond ns (int_eq x (neg_ℤ y)) (record { flag = Const true; held = ns }) (xor_signed_made eq ns x y) (λ k n h. h) (grown_signed eq ns x y))
+    (grown_cond ns (int_eq x (neg_ℤ y)) (record { flag = Const true; held = ns }) (xor_signed_made eq ns x y) (λ k n h. h) (grown_signed eq ns x y))
 
 grown_xor : (eq : Node → Node → Bool) (ns : List Node) (b c : Lit) → Grown ns (xor_made eq ns b c).held
 unfolding xor_made

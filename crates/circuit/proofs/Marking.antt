@@ -40,7 +40,7 @@ set_from [] i k h = inl h
 set_from (b ∷ m) zero zero h = inr refl
 set_from (b ∷ m) zero (suc k) h = inl h
 set_from (b ∷ m) (suc i) zero h = inl h
-set_from (b ∷ m) (suc i) (suc k) h = elim (set_from m i k h) [ | inl p ↦ inl p | inr q ↦ inr (ap suc q) ]
+set_from (b ∷ m) (suc i) (suc k) h = elim (set_from m i k h) [ inl p ↦ inl p | inr q ↦ inr (ap suc q) ]
 
 pub marked_kept : (zs : List ℤ) (m : List Bool) (k : ℕ) → is_marked m k ≡ true → is_marked (marked zs m) k ≡ true
 marked_kept [] m k h = h
@@ -61,7 +61,7 @@ names_more z zs k a = let l = a.2 in (suc a.0, a.1, omega (arith, l), a.3, a.4)
 pub marked_from : (zs : List ℤ) (m : List Bool) (k : ℕ) → is_marked (marked zs m) k ≡ true → (is_marked m k ≡ true) ⊎ Names zs k
 marked_from [] m k h = inl h
 marked_from (z ∷ zs) m k h = elim (marked_from zs (set m (variable z) true) k h) [
-  | inl p ↦ elim (set_from m (variable z) k p) [ | inl q ↦ inl q | inr e ↦ inr (0, z, omega arith, refl, e) ]
+  | inl p ↦ elim (set_from m (variable z) k p) [ inl q ↦ inl q | inr e ↦ inr (0, z, omega arith, refl, e) ]
   | inr a ↦ inr (names_more z zs k a)
 ]
 
@@ -84,14 +84,16 @@ marks_start ns clause n marks e f a =
     let within : (k : ℕ) → Names clause k → k < length (replicate n false) = λ k h. let p = All-contains (λ z. variable z ≤ length ns) clause h.1 a (h.0, h.2, h.3) in let q : variable h.1 ≡ k = h.4 in omega (arith, p, q, w, e) in
     record {
       wide = let l = marked-length clause (replicate n false) in rw f (omega (arith, l, w, e));
-      sound = λ k h. elim (marked_from clause (replicate n false) k (subst (λ m. is_marked m k ≡ true) f h)) [ | inl p ↦ let b = no_marks n k in absurd cc | inr q ↦ named k q ];
+      sound = λ k h. elim (marked_from clause (replicate n false) k (subst (λ m. is_marked m k ≡ true) f h)) [ inl p ↦ let b = no_marks n k in absurd cc | inr q ↦ named k q ];
       own = λ k h. subst (λ m. is_marked m k ≡ true) (sym f) (marked_names clause (replicate n false) k h (within k h));
       closed = λ j m k l s t h. let b = slice_get_within ns j m s in absurd (omega (arith, l, b));
     }
 
 pub marks_pass : (ns : List Node) (clause : List ℤ) (i : ℕ) (marks : List Bool) → is_marked marks (i + 1) ≡ false → MarksStand ns clause (i + 1) marks → MarksStand ns clause i marks
 marks_pass ns clause i marks f m = record {
-  wide = m.wide; sound = m.sound; own = m.own;
+  wide = m.wide;
+  sound = m.sound;
+  own = m.own;
   closed = λ j n k l s t h. elim (cases_eq j i) [
     | inl e ↦ let u = subst (λ q. is_marked marks (q + 1) ≡ true) e t in absurd cc
     | inr ne ↦ m.closed j n k (omega (arith, l, ne)) s t h
@@ -105,12 +107,12 @@ reads_earlier ns o i n k s a = let r = o.reads i n s in let p = input_reach n a.
 pub marks_more : (ns : List Node) (clause : List ℤ) (i : ℕ) (n : Node) (marks : List Bool) → IsOrdered ns → slice_get ns i ≡ Some n → is_marked marks (i + 1) ≡ true → MarksStand ns clause (i + 1) marks → MarksStand ns clause i (marked (inputs_of n) marks)
 marks_more ns clause i n marks o s t m =
     let early = reads_earlier ns o in
-    let before : (j : ℕ) → i < j → is_marked (marked (inputs_of n) marks) j ≡ true → is_marked marks j ≡ true = λ j l h. elim (marked_from (inputs_of n) marks j h) [ | inl p ↦ p | inr a ↦ let r = early i n j s a in absurd (omega (arith, l, r)) ] in
+    let before : (j : ℕ) → i < j → is_marked (marked (inputs_of n) marks) j ≡ true → is_marked marks j ≡ true = λ j l h. elim (marked_from (inputs_of n) marks j h) [ inl p ↦ p | inr a ↦ let r = early i n j s a in absurd (omega (arith, l, r)) ] in
     let w = m.wide in
     let inside = slice_get_within ns i n s in
     record {
       wide = marked-length (inputs_of n) marks ∙ m.wide;
-      sound = λ k h. elim (marked_from (inputs_of n) marks k h) [ | inl p ↦ m.sound k p | inr a ↦ read k i n (m.sound (i + 1) t) s a ];
+      sound = λ k h. elim (marked_from (inputs_of n) marks k h) [ inl p ↦ m.sound k p | inr a ↦ read k i n (m.sound (i + 1) t) s a ];
       own = λ k h. marked_kept (inputs_of n) marks k (m.own k h);
       closed = λ j p k l e u h. elim (cases_eq j i) [
         | inl q ↦ let same : n ≡ p = let f = subst (λ b. slice_get ns b ≡ Some p) q e in cc in

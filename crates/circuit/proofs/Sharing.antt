@@ -46,11 +46,11 @@ apart_more b xs y s a w p q ne h t = elim (there_cases b xs y (Free w p) h) [
   | inl i ↦ elim (there_cases b xs y (Free (swapped_word w) q) t) [
     | inl u ↦ s.apart w p q ne i u
     | inr f ↦ (subst (IsApart xs) (sym f) a) (λ e. ne (sym (sym (swapped_back w) ∙ e))) p (subst (λ z. IsThere xs (Free z p)) (sym (swapped_back w)) i)
-    ]
+  ]
   | inr e ↦ elim (there_cases b xs y (Free (swapped_word w) q) t) [
     | inl u ↦ (subst (IsApart xs) (sym e) a) ne q u
     | inr f ↦ let g : Free (swapped_word w) q ≡ Free w p = f ∙ sym e in ne (cc)
-    ]
+  ]
 ]
 
 begun_more : (b : Bool) (xs : List Node) (y : Node) → IsShared xs → IsBegun xs y → (w : FreeWord) (p : ℕ) → (IsThere (with_node b xs y) (Free w 0) → ⊥) → IsThere (with_node b xs y) (Free w p) → ⊥
@@ -59,7 +59,7 @@ begun_more b xs y s g w p none h = elim (there_cases b xs y (Free w p) h) [
   | inr e ↦ elim (subst (IsBegun xs) (sym e) g) [
     | inl z ↦ none (subst (λ k. IsThere (with_node b xs y) (Free w k)) z h)
     | inr t ↦ none (there_kept b xs y (Free w 0) t)
-    ]
+  ]
 ]
 
 shared_more : (b : Bool) (xs : List Node) (y : Node) → IsShared xs → IsApart xs y → IsBegun xs y → IsShared (with_node b xs y)
@@ -147,7 +147,7 @@ same_place xs d j k n e f h =
 one_place : (xs : List Node) → IsDistinct ghosts.eq xs → (j k : ℕ) (n : Node) → slice_get xs j ≡ Some n → slice_get xs k ≡ Some n → j ≡ k
 one_place xs d j k n e f = elim (cases_order j k) [
   | inl s ↦ s
-  | inr t ↦ elim t [ | inl l ↦ absurd (same_place xs d j k n e f l) | inr g ↦ absurd (same_place xs d k j n f e g) ]
+  | inr t ↦ elim t [ inl l ↦ absurd (same_place xs d j k n e f l) | inr g ↦ absurd (same_place xs d k j n f e g) ]
 ]
 
 swapped_place : (xs : List Node) → IsDistinct ghosts.eq xs → IsShared xs → (j k : ℕ) (n : Node) → slice_get xs j ≡ Some n → slice_get xs k ≡ Some (swapped n) → j ≡ k

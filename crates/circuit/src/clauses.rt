@@ -86,7 +86,11 @@ fn variable_at(index: usize) -> i32
 }
 
 /// The clauses of the nodes whose variables are chosen, by rising variable.
-pub fn chosen_clauses(alloc: Global, chosen: &[bool], nodes: &[Node]) -> Result<Vec<Clause>, NoMemory>
+pub fn chosen_clauses(
+    alloc: Global,
+    chosen: &[bool],
+    nodes: &[Node],
+) -> Result<Vec<Clause>, NoMemory>
     requires ordered { IsOrdered nodes.now }
     requires few { length nodes.now < 2 ^ 31 }
     requires count { length chosen.now ≡ length nodes.now + 1 }

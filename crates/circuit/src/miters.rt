@@ -29,7 +29,10 @@ fn has_true(literals: &[Lit]) -> bool
 fn signed_variables(alloc: Global, literals: &[Lit]) -> Result<Vec<i32>, NoMemory>
     ensures { IfOk result (λ r. r.items ≡ filter_map signed_variable literals.now) }
 {
-    let signed = literals.iter().filter_map(|literal| literal.signed_variable()).collect(alloc)?;
+    let signed = literals
+        .iter()
+        .filter_map(|literal| literal.signed_variable())
+        .collect(alloc)?;
     Ok(signed)
 }
 

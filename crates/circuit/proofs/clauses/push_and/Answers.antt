@@ -13,4 +13,4 @@ returns c =
     let not_x : to_z w32 (of_z w32 c.opposite.result) ≡ neg_ℤ c.args.x = to_z-of_z w32 c.opposite.result (search rules) ∙ c.opposite.ensures ∙ ap neg_ℤ x in
     let not_y : to_z w32 (of_z w32 c.opposite-2.result) ≡ neg_ℤ c.args.y = to_z-of_z w32 c.opposite-2.result (search rules) ∙ c.opposite-2.ensures ∙ ap neg_ℤ y in
     three_more c.push_three.result c.args.out.now.items _ _ _ _ _ _ _ _ _ c.in_ok-push_two.ensures c.in_ok-push_two-2.ensures c.push_three.ensures
-      (two_alike not_v x) (two_alike not_v y) (three_alike v not_x not_y)
+    (two_alike not_v x) (two_alike not_v y) (three_alike v not_x not_y)

@@ -14,7 +14,7 @@ pub loop-k-preserved-then-index : goal.loop-k-preserved-then-index
 loop-k-preserved-then-index c =
     let w = written c.loop-k.marks.len c.mark_inputs.new.marks c.loop-k.marks.items (omega (arith, c.mark_inputs.auto.marks, ap length c.deref_mut.ensures.value)) (omega arith) in
     marks_step c.args.nodes.now c.args.clause.now c.loop-k.k c.loop-k.marks.items _ c.index.result.now c.requires.ordered c.loop-k-test.true (omega arith) c.loop-k.invariant
-      c.index.ensures c.if-index.true (w ∙ c.mark_inputs.ensures ∙ rw c.deref_mut.ensures.value refl)
+    c.index.ensures c.if-index.true (w ∙ c.mark_inputs.ensures ∙ rw c.deref_mut.ensures.value refl)
 
 pub returns-clause-exact : goal.returns-clause-exact
 returns-clause-exact c = let e : c.loop-k.k ≡ 0 = omega arith in
