@@ -103,5 +103,7 @@ fn words_are_fetched_from_code_alone(rt: HostRuntime) -> Result<(), NoMemory> {
     assert!(rt; space.fetch(0x1000_0001) == None);
     assert!(rt; space.fetch(0x1000_0004) == None);
     assert!(rt; space.fetch(0x1001_0000) == None);
+    assert!(rt; space.code_from(0x1000_0003) == Some([2u8, 0x60].as_slice()));
+    assert!(rt; space.code_from(0x1001_0000).is_none());
     Ok(())
 }
