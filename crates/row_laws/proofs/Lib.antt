@@ -11,3 +11,4 @@ mod Numbers
 mod Accesses
 mod Same
 pub mod Depends
+pub mod Agreement

@@ -3,4 +3,4 @@
 
 mod laws;
 
-pub use laws::{changes_its_writes_alone, depends_on_its_reads_alone};
+pub use laws::{changes_its_writes_alone, depends_on_its_reads_alone, keeps_agreement};
