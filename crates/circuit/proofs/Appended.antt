@@ -1,5 +1,5 @@
 -- Clauses that are appended one after another.
-use Rattle.std.proofs.Common.{◌≡◌, ℕ, ◌+◌, ◌<◌, ◌≤◌, Bool, true, false, cond, List, [], ◌∷◌, ◌++◌, Result, Ok, Err, OnOk, refl, sym, ◌∙◌, ap, subst, arith, length, drop, append_assoc, append-nil, ℤ, pos, get_or}
+use Rattle.std.proofs.Common.{◌≡◌, ℕ, ◌+◌, ◌<◌, ◌≤◌, Bool, true, false, cond, List, [], ◌∷◌, ◌++◌, Result, Ok, Err, OnOk, refl, sym, ◌∙◌, ap, subst, length, drop, append_assoc, append-nil, ℤ, pos, get_or}
 use Rattle.std.proofs.lemmas.List.{drop_more, drop_all}
 use Rattle.circuit.specs.Clauses.{gate_clauses, chosen_clauses}
 use Rattle.circuit.specs.declared.nodes.Node.{Node}

@@ -1,17 +1,16 @@
 -- A formula is satisfiable exactly where the gates allow a pair to differ.
-use Rattle.std.proofs.Common.{◌≡◌, ◌↔◌, ◌⊎◌, inl, inr, ℕ, zero, suc, ◌+◌, ◌<◌, ◌≤◌, ◌^◌, Bool, true, false, not, cond, ◌&&◌, ◌||◌, List, [], ◌∷◌, ◌++◌, Option, None, Some, refl, sym, ◌∙◌, ap, subst, arith, length, IsTrue, ℤ, pos, negsuc, slice_get, get_or}
-use Rattle.std.specs.List.{All, Any, Contains, list_any, filter_map, cons_option}
+use Rattle.std.proofs.Common.{◌≡◌, ◌↔◌, ◌⊎◌, inl, inr, ℕ, zero, suc, ◌+◌, ◌<◌, ◌≤◌, ◌^◌, Bool, true, false, not, List, [], ◌∷◌, ◌++◌, None, Some, refl, sym, ◌∙◌, ap, subst, arith, length, IsTrue, ℤ, pos, negsuc, slice_get, get_or}
+use Rattle.std.specs.List.{Any, Contains, list_any, filter_map}
 use Rattle.std.proofs.lemmas.List.{get_or_default}
 use Rattle.std.proofs.lemmas.Option.{slice_get_within, slice_get-get_or}
 use Rattle.std.proofs.lemmas.List.Elements.{All-head, All-cons, All-nil, All-append}
 use Rattle.std.proofs.lemmas.List.Folds.{Any-from_list_any, list_any_at}
-use Rattle.word_kit.specs.Words.{same}
 use Rattle.word_kit.specs.Formulas.{Satisfies, literal_truth, variable}
 use Rattle.circuit.specs.Literals.{signed_reach, lit_truth, lit_reach, is_true, signed_variable}
 use Rattle.circuit.specs.Nodes.{node_reach, IsOrdered}
 use Rattle.circuit.specs.Extensions.{GateSays, GatesAgree}
 use Rattle.circuit.specs.WordsMade.{at}
-use Rattle.circuit.specs.Clauses.{inputs_of, Names, IsReached, gate_clauses, chosen_clauses, AreClausesFor}
+use Rattle.circuit.specs.Clauses.{inputs_of, IsReached, chosen_clauses, AreClausesFor}
 use Rattle.circuit.specs.Clauses.IsReached.{named, read}
 use Rattle.circuit.specs.Miters.{pair_at, AreOwned, differs, CanDiffer, final_clause, IsSatisfiable}
 use Rattle.circuit.specs.declared.literals.Lit.{Lit}

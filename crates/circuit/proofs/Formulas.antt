@@ -1,5 +1,5 @@
 -- The clauses of a circuit are those of a formula over its variables.
-use Rattle.std.proofs.Common.{inl, inr, ◌≡◌, ℕ, zero, suc, ◌+◌, ◌<◌, ◌≤◌, ◌^◌, Bool, true, false, cond, List, [], ◌∷◌, ◌++◌, Option, None, Some, refl, sym, ◌∙◌, ap, subst, arith, length, ℤ, pos, negsuc, neg_ℤ, slice_get, get_or}
+use Rattle.std.proofs.Common.{inl, inr, ◌≡◌, ℕ, zero, suc, ◌+◌, ◌<◌, ◌≤◌, ◌^◌, Bool, true, false, cond, List, [], ◌∷◌, Option, None, Some, refl, sym, subst, arith, length, ℤ, pos, negsuc, neg_ℤ, slice_get}
 use Rattle.std.specs.List.{All, Contains, list_any, filter_map}
 use Rattle.std.specs.Option.{IfSome}
 use Rattle.std.proofs.lemmas.List.Elements.{All-cons, All-nil, All-append, All-weaker, All-contains_itself}
@@ -11,7 +11,6 @@ use Rattle.circuit.specs.WordsMade.{at}
 use Rattle.circuit.specs.Clauses.{gate_clauses, chosen_clauses, AreClausesFor}
 use Rattle.circuit.specs.Miters.{final_clause}
 use Rattle.circuit.specs.declared.literals.Lit.{Lit}
-use Rattle.circuit.specs.declared.literals.Lit.TheVariants.{Const, Var}
 use Rattle.circuit.specs.declared.nodes.Node.{Node}
 use Rattle.circuit.specs.declared.nodes.Node.TheVariants.{Input, And, Xor, Free}
 use Rattle.circuit.proofs.GateTruths.{nonzero}

@@ -1,6 +1,6 @@
 -- The clauses of a gate are true exactly where its variable has the truth of the gate.
-use Rattle.std.proofs.Common.{◌≡◌, ℕ, zero, suc, ◌+◌, ◌<◌, ◌≤◌, ◌^◌, Bool, true, false, not, cond, ◌&&◌, ◌||◌, List, [], ◌∷◌, ◌++◌, Some, refl, sym, ◌∙◌, ap, subst, arith, length, take, drop, IsTrue, ℤ, pos, negsuc, neg_ℤ, slice_get, get_or}
-use Rattle.std.specs.List.{All, Any, Contains, list_any}
+use Rattle.std.proofs.Common.{◌≡◌, ℕ, zero, suc, ◌+◌, ◌<◌, ◌^◌, Bool, true, false, not, cond, ◌&&◌, ◌||◌, List, [], ◌∷◌, ◌++◌, Some, refl, sym, subst, arith, length, IsTrue, ℤ, pos, negsuc, neg_ℤ, slice_get}
+use Rattle.std.specs.List.{Any, list_any}
 use Rattle.std.proofs.lemmas.List.{take_at, drop_at}
 use Rattle.std.proofs.lemmas.List.Elements.{All-head, All-tail, All-cons, All-nil, All-take, All-drop, All-append}
 use Rattle.std.proofs.lemmas.List.Folds.{Any-from_list_any, list_any-from_Any}
@@ -9,7 +9,7 @@ use Rattle.word_kit.specs.Formulas.{Satisfies, literal_truth, variable}
 use Rattle.circuit.specs.Literals.{signed_reach}
 use Rattle.circuit.specs.Nodes.{node_reach}
 use Rattle.circuit.specs.Extensions.{GateSays}
-use Rattle.circuit.specs.Clauses.{inputs_of, gate_clauses, chosen_clauses}
+use Rattle.circuit.specs.Clauses.{gate_clauses, chosen_clauses}
 use Rattle.circuit.specs.declared.nodes.Node.{Node}
 use Rattle.circuit.specs.declared.nodes.Node.TheVariants.{Input, And, Xor, Free}
 

@@ -1,5 +1,5 @@
 -- The nodes that are there stay where they are when differences are made.
-use Rattle.std.proofs.Common.{◌≡◌, ℕ, zero, suc, ◌+◌, Bool, true, false, cond, not, List, Some, refl, ℤ, pos, neg_ℤ, unsigned_abs, int_lt, slice_get, length}
+use Rattle.std.proofs.Common.{◌≡◌, ℕ, zero, suc, Bool, true, false, cond, List, Some, ℤ, pos, neg_ℤ, unsigned_abs, int_lt, slice_get, length}
 use Rattle.std.specs.Ordering.{int_eq}
 use Rattle.circuit.specs.Made.{BitMade, node_made, xor_node_made, xor_signed_made, xor_vars_made, xor_made}
 use Rattle.circuit.specs.WordsMade.{word_made}

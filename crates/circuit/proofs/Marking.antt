@@ -1,9 +1,9 @@
 -- Marks of the variables that a clause reaches.
-use Rattle.std.proofs.Common.{◌-◌, drop, append-nil, ◌≡◌, ◌≢◌, ◌↔◌, ◌⊎◌, inl, inr, ℕ, zero, suc, ◌+◌, ◌<◌, ◌≤◌, ◌^◌, Bool, true, false, List, [], ◌∷◌, ◌++◌, Some, refl, sym, ◌∙◌, ap, subst, arith, length, take, replicate, set, IsTrue, ℤ, slice_get, get_or}
-use Rattle.std.specs.List.{All, Any, Contains}
-use Rattle.std.proofs.lemmas.Bool.{cases_eq, cases_order}
+use Rattle.std.proofs.Common.{◌-◌, drop, append-nil, ◌≡◌, ◌↔◌, ◌⊎◌, inl, inr, ℕ, zero, suc, ◌+◌, ◌<◌, ◌≤◌, Bool, true, false, List, [], ◌∷◌, ◌++◌, Some, refl, sym, ◌∙◌, ap, subst, arith, length, take, replicate, set, IsTrue, ℤ, slice_get, get_or}
+use Rattle.std.specs.List.{All}
+use Rattle.std.proofs.lemmas.Bool.{cases_eq}
 use Rattle.std.proofs.lemmas.Option.{slice_get_within, slice_get-get_or}
-use Rattle.std.proofs.lemmas.List.{take_more, take_all, drop_all, get_or_read, length-set, length-replicate, get_or-set_same, get_or-set_other, get_or-replicate, get_or_past}
+use Rattle.std.proofs.lemmas.List.{take_more, take_all, drop_all, get_or_read, length-set, length-replicate, get_or-set_same}
 use Rattle.std.proofs.lemmas.List.Elements.{All-contains}
 use Rattle.word_kit.specs.Formulas.{variable}
 use Rattle.circuit.specs.Nodes.{node_reach, IsOrdered}

@@ -1,9 +1,9 @@
 -- What a final clause reaches tells the clauses.
-use Rattle.std.proofs.Common.{◌≡◌, ◌↔◌, ◌⊎◌, inl, inr, ℕ, zero, suc, ◌+◌, ◌<◌, ◌≤◌, ◌^◌, Bool, true, false, cond, List, [], ◌∷◌, ◌++◌, Option, None, Some, refl, sym, ◌∙◌, ap, subst, arith, length, IsTrue, ℤ, pos, slice_get}
+use Rattle.std.proofs.Common.{◌≡◌, ℕ, ◌+◌, ◌<◌, ◌^◌, Bool, true, false, List, [], ◌∷◌, ◌++◌, Option, None, Some, refl, sym, ◌∙◌, ap, subst, arith, length, ℤ}
 use Rattle.std.proofs.lemmas.Option.{slice_get_within}
 use Rattle.circuit.specs.Nodes.{IsOrdered}
 use Rattle.circuit.specs.Extensions.{GateSays}
-use Rattle.circuit.specs.Clauses.{IsReached, gate_clauses, chosen_clauses, AreClausesFor, is_gate, SatisfiesGates}
+use Rattle.circuit.specs.Clauses.{chosen_clauses, AreClausesFor, is_gate, SatisfiesGates}
 use Rattle.circuit.specs.declared.nodes.Node.{Node}
 use Rattle.circuit.specs.declared.nodes.Node.TheVariants.{Input, And, Xor, Free}
 use Rattle.circuit.proofs.Extended.{gate_truth, extended, extended_input, gates_extend}

@@ -1,6 +1,5 @@
 use Rattle.std.proofs.Common.{rules, ◌≡◌, ◌∙◌, ap, neg_ℤ, to_z, of_z, w32}
 use Rattle.std.proofs.lemmas.Int.{to_z-of_z}
-use mir.Val.{SFits}
 use Rattle.circuit.proofs.Appended.{two_alike, three_alike, three_more}
 use Rattle.circuit.proofs.clauses.push_and.Goals as goal
 

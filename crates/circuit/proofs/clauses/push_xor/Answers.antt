@@ -1,6 +1,5 @@
 use Rattle.std.proofs.Common.{rules, ◌≡◌, ◌∙◌, ap, neg_ℤ, to_z, of_z, w32}
 use Rattle.std.proofs.lemmas.Int.{to_z-of_z}
-use mir.Val.{SFits}
 use Rattle.circuit.proofs.Appended.{three_alike, four_more}
 use Rattle.circuit.proofs.clauses.push_xor.Goals as goal
 

@@ -1,6 +1,5 @@
-use Rattle.std.proofs.Common.{◌≡◌, ◌∙◌, ap, sym, false, true, set, replicate, get_or, length, arith, rules, to_z, of_z, w32, pos}
+use Rattle.std.proofs.Common.{◌≡◌, ◌∙◌, ap, sym, false, replicate, get_or, length, arith, rules, to_z, of_z, w32, pos}
 use Rattle.std.proofs.lemmas.Int.{to_z-of_z}
-use Rattle.word_kit.specs.Formulas.{variable}
 use Rattle.circuit.proofs.Marking.{marked_more, written}
 use Rattle.circuit.proofs.reached.marks_of.Goals as goal
 

@@ -1,6 +1,4 @@
-use Rattle.std.proofs.Common.{◌≡◌, ◌∙◌, ap, subst, sym, refl, length, arith, rules}
-use Rattle.circuit.specs.Clauses.{inputs_of}
-use Rattle.circuit.specs.Marks.{marked}
+use Rattle.std.proofs.Common.{◌≡◌, ◌∙◌, ap, subst, refl, length, arith}
 use Rattle.circuit.proofs.Marking.{MarksStand, marks_start, marks_step, marks_end, reads_marks, written}
 use Rattle.circuit.proofs.reached.reached.Goals as goal
 

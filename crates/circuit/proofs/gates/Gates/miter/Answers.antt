@@ -1,13 +1,11 @@
-use Rattle.std.proofs.Common.{◌≡◌, ◌<◌, ◌≤◌, ◌∙◌, ℕ, Option, List, ℤ, subst, sym, refl, ap, arith, length, slice_get, Some}
+use Rattle.std.proofs.Common.{◌≡◌, ◌≤◌, ◌∙◌, subst, sym, ap, arith, length, slice_get, Some}
 use Rattle.std.specs.List.{All}
 use Rattle.std.specs.Option.{IfSome}
-use Rattle.circuit.specs.Literals.{signed_reach, lit_reach}
-use Rattle.circuit.specs.Nodes.{IsOrdered}
-use Rattle.circuit.specs.WordsMade.{at}
+use Rattle.circuit.specs.Literals.{signed_reach}
 use Rattle.circuit.specs.Clauses.{AreClausesFor}
 use Rattle.circuit.specs.Miters.{final_clause}
 use Rattle.circuit.specs.contracts.nodes.NodePartialEq.TheImpl.{ghosts}
-use Rattle.circuit.proofs.Differing.{AreDifferences, satisfiable_where_differing}
+use Rattle.circuit.proofs.Differing.{satisfiable_where_differing}
 use Rattle.circuit.proofs.Formulas.{is_formula, final_owned}
 use Rattle.circuit.proofs.Growing.{grown_differences}
 use Rattle.circuit.proofs.gates.Gates.miter.Goals as goal
