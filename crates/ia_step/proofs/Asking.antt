@@ -1,20 +1,18 @@
 -- Calls that the host makes.
-use Rattle.std.proofs.Common.{◌≡◌, ℕ, Bool, true, false, cond, eqb, ◌-◌, ◌^◌, refl, sym, ◌∙◌, ap, subst, drop, arith}
+use Rattle.std.proofs.Common.{◌≡◌, ℕ, true, false, eqb, ◌-◌, ◌^◌, refl, sym, ◌∙◌, ap, drop, arith}
 use Rattle.std.proofs.lemmas.Bool.Decides.{nat_tests}
 use Rattle.std.specs.Prelude.{slice_index}
-use Rattle.space.specs.declared.call.Call.{Call}
 use Rattle.space.specs.declared.call.CallKind.{CallKind}
 use Rattle.space.specs.declared.call.End.TheVariants.{Outside}
 use Rattle.space.specs.declared.call.Event.{Event}
 use Rattle.space.specs.declared.call.Event.TheVariants.{Went, Asked, Ended}
 use Rattle.space.specs.declared.program.Program.{Program}
-use Rattle.runs.specs.Machine.{Ends}
 use Rattle.machines.specs.Memory.{rights_of}
-use Rattle.machines.specs.Host.{Host, asks, system_call}
+use Rattle.machines.specs.Host.{Host, system_call}
 use Rattle.ia_step.specs.declared.parts.Parts.{Parts}
 use Rattle.ia_step.specs.declared.state.State.{State}
 use Rattle.ia_step.specs.Shown.{IsCore, IsState, with_reg}
-use Rattle.ia_step.specs.Calls.{listed_as, is_buffer, asks_for, IsAsking}
+use Rattle.ia_step.specs.Calls.{is_buffer, asks_for}
 use Rattle.ia_step.specs.Steps.{Leads}
 use Rattle.ia_step.proofs.Resuming.{reg_is}
 

@@ -1,5 +1,5 @@
 -- How the host goes on behind an op.
-use Rattle.std.proofs.Common.{◌≡◌, ℕ, true, false, Option, Some, None, refl, sym, ◌∙◌, ap, subst, drop, ◌⊎◌, inl, inr}
+use Rattle.std.proofs.Common.{◌≡◌, ℕ, true, false, Option, Some, None, refl, ap, drop, ◌⊎◌, inl, inr}
 use Rattle.space.specs.declared.call.End.TheVariants.{Outside}
 use Rattle.space.specs.declared.call.Event.{Event}
 use Rattle.space.specs.declared.call.Event.TheVariants.{Went, Ended}
@@ -14,7 +14,7 @@ use Rattle.machines.specs.Memory.{Rights, rights_of}
 use Rattle.machines.specs.Host.{Core, Host, Choice, place_of, reads, sets, unary_does, goes_to, plain, unary_acts, acts}
 use Rattle.ia_step.specs.declared.parts.Parts.{Parts}
 use Rattle.ia_step.specs.declared.state.State.{State}
-use Rattle.ia_step.specs.Shown.{Led, IsCore, IsState}
+use Rattle.ia_step.specs.Shown.{Led}
 use Rattle.ia_step.specs.Steps.{Leads}
 
 -- an op that goes through

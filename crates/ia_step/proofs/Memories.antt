@@ -6,7 +6,7 @@ use Rattle.access.specs.Kept.{Keeps, is_allowed}
 use Rattle.ia_codec.specs.declared.op.Operand.{Operand}
 use Rattle.ia_codec.specs.declared.op.Operand.TheVariants.{Reg, Abs, Base, Pair}
 use Rattle.machines.specs.Memory.{rights_of, each_byte, load, store}
-use Rattle.machines.specs.Host.{Core, Place, Register, Memory, place_of, address_in, reads, puts}
+use Rattle.machines.specs.Host.{Core, Place, Memory, place_of, address_in, reads, puts}
 use Rattle.ia_step.specs.declared.parts.Parts.{Parts}
 use Rattle.ia_step.specs.Shown.{IsCore, Led}
 

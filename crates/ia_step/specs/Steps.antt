@@ -6,6 +6,7 @@ use Rattle.space.specs.declared.call.Call.{Call}
 use Rattle.space.specs.declared.call.End.{End}
 use Rattle.space.specs.declared.call.End.TheVariants.{Running, Dry}
 use Rattle.space.specs.declared.program.Program.{Program}
+use Rattle.space.specs.Memory.{Memory}
 use Rattle.runs.specs.Machine.{Outcome, Goes, Asks, Ends}
 use Rattle.ia_codec.specs.declared.op.Op.{Op}
 use Rattle.machines.specs.Memory.{rights_of}
@@ -44,6 +45,9 @@ pub record Seen : Type 0 where
   pub state : State
   pub phase : Phase
 
+abbrev pub memory_of : Seen → Memory
+memory_of m = m.state.parts.space
+
 -- A call that waits has its buffer, and a run is over with an end.
 abbrev pub IsReady : Phase → State → Type 0
 IsReady Going s = Unit {0}
@@ -72,7 +76,7 @@ Tells _ _ = ⊥
 -- What an event says of a step, whatever program runs: how the machine stands, and that an end changes nothing else.
 abbrev pub IsTold : Event → Seen → Seen → Type 0
 IsTold Went old new = new.phase ≡ Going
-IsTold (Asked c) old new = (new.phase ≡ Waiting c) × HasBuffer c new.state.parts.space
+IsTold (Asked c) old new = (new.phase ≡ Waiting c) × HasBuffer c (memory_of new)
 IsTold (Ended e) old new = IsEnd e × (new ≡ record old { phase = Over e })
 
 -- a call waits

@@ -11,7 +11,7 @@ ghost use Rattle.access.specs.Kept.{HasClosedCode};
 ghost use Rattle.machines.specs.Readings.{Fetched, ReadsOps};
 ghost use Rattle.machines.specs.Host.{Host, host_start};
 ghost use Rattle.ia_step.specs.Values.{choice_of};
-ghost use Rattle.ia_step.specs.Steps.{Shows, Tells, IsTold, IsWaiting, stepped};
+ghost use Rattle.ia_step.specs.Steps.{Shows, Tells, IsTold, IsWaiting, memory_of, stepped};
 
 use crate::choices::{Choice, Choices};
 use crate::parts::{Flags, Parts};
@@ -49,7 +49,8 @@ impl Model for Machine {
 
 impl Machine {
     /// The machine before its first step. Choices 0 to 7 are the registers by number, the flags of choice 8 the flags,
-    /// and choice 9 + k serves step k. Past the list's end each is 0.
+    /// and choice 9 + k serves step k. Past the list's end each is 0. No two segments share an address, and the code may not
+    /// be written. NoMemory comes where there is none for the bytes of the segments.
     pub fn boot(alloc: Global, program: &Program, choices: Vec<Choice>) -> Result<Machine, NoMemory>
         requires apart { AreApart program.now.segments }
         requires closed { HasClosedCode program.now }
@@ -79,7 +80,9 @@ impl Machine {
         })
     }
 
-    /// One step. No call waits for its answer.
+    /// One step of the host machine (docs/machines.md): Went where it goes on, Asked where it makes a call, whose answer
+    /// then has to come before the next step, and Ended where the run is over; never with Running or Dry. An end changes
+    /// nothing else, and every later step answers the same. A step takes no memory.
     pub fn step(&mut self) -> Event
         requires { IsWaiting self.old.phase → ⊥ }
         ensures shows { (ops : List ℕ → Option Fetched) → ReadsOps ops → (p : OfProgram) (o : Outcome Host) → Shows p self.old o → Shows p self.new (stepped ops p o) }
@@ -99,7 +102,8 @@ impl Machine {
         event
     }
 
-    /// Answers the call that waits.
+    /// Answers the call that waits: eax gets the result, or 2^32 - e for an error e, and a read's bytes go to its buffer.
+    /// What an answer gives that doesn't suit its call stands with `given`. It takes no memory.
     pub fn answer(&mut self, answer: Answer<'_>)
         requires { IsWaiting self.old.phase }
         ensures { (p : OfProgram) (call : ListedCall) (next : AnswerValue → Host) → Shows p self.old (Asks call next) → Shows p self.new (Goes (next (answer_value answer.entry))) }
@@ -113,13 +117,14 @@ impl Machine {
         }
     }
 
+    /// The memory as it stands now.
     pub fn space(&self) -> &Space
-        ensures { result.now ≡ self.now.state.parts.space }
+        ensures { result.now ≡ memory_of self.now }
     {
         &self.state.parts.space
     }
 
-    /// The value of a register.
+    /// The value of a register: 0 is eax, 1 ecx, 2 edx, 3 ebx, 6 esi, 7 edi.
     pub fn reg(&self, r: u8) -> u32
         requires { IsReg r }
         ensures { result ≡ slice_index self.now.state.parts.regs r }

@@ -1,4 +1,4 @@
-use Rattle.std.proofs.Common.{◌≡◌, List, drop, map, ap, sym, ◌∙◌}
+use Rattle.std.proofs.Common.{drop, map, ap, sym, ◌∙◌}
 use Rattle.std.proofs.lemmas.List.{drop-map, drop-drop}
 use Rattle.ia_step.specs.Values.{choice_of}
 use Rattle.ia_step.proofs.choices.Choices.advance.Goals as goal

@@ -1,5 +1,4 @@
 use Rattle.std.proofs.Common.{subst, ap, sym, ◌∙◌, ◌≡◌}
-use Rattle.ia_alu.specs.Values.{outcome_of}
 use Rattle.machines.specs.Host.{values_of}
 use Rattle.ia_codec.specs.Rows.{host_row}
 use Rattle.ia_codec.specs.declared.op.Op.TheVariants.{Cdq}

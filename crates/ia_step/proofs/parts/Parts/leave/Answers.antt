@@ -1,5 +1,4 @@
-use Rattle.std.proofs.Common.{true, false, subst, sym, ap}
-use Rattle.std.specs.Option.{is_some}
+use Rattle.std.proofs.Common.{true, subst, sym}
 use Rattle.machines.specs.Memory.{rights_of}
 use Rattle.machines.specs.Host.{leaves, place_of}
 use Rattle.ia_step.specs.Shown.{Led}

@@ -1,4 +1,3 @@
-use Rattle.std.proofs.Common.{sym, ◌∙◌}
 use Rattle.ia_step.proofs.Memories.{stored, not_stored}
 use Rattle.ia_step.proofs.parts.Parts.store.Goals as goal
 

@@ -1,4 +1,4 @@
-use Rattle.std.proofs.Common.{true, false, subst, sym, drop}
+use Rattle.std.proofs.Common.{subst, sym}
 use Rattle.space.specs.declared.call.Event.TheVariants.{Asked}
 use Rattle.ia_step.specs.Calls.{asks_for}
 use Rattle.ia_step.specs.Steps.{Leads}

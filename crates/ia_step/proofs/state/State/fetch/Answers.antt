@@ -1,4 +1,3 @@
-use Rattle.std.proofs.Common.{true, sym, ◌∙◌}
 use Rattle.ia_step.proofs.Fetching.{fetched, illegal}
 use Rattle.ia_step.proofs.state.State.fetch.Goals as goal
 

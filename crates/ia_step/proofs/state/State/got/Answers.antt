@@ -1,4 +1,4 @@
-use Rattle.std.proofs.Common.{[], length, min, take, refl, sym, ◌∙◌}
+use Rattle.std.proofs.Common.{[], length, min, take, refl}
 use Rattle.space.specs.Reports.{Got, Gives}
 use Rattle.ia_step.proofs.Resuming.{resumed, read_given, got_nothing, no_read, result_put, read_put}
 use Rattle.ia_step.proofs.state.State.got.Goals as goal

@@ -1,4 +1,4 @@
-use Rattle.std.proofs.Common.{[], min, refl, sym, ◌∙◌}
+use Rattle.std.proofs.Common.{[], min, refl}
 use Rattle.space.specs.Reports.{Took, Gives}
 use Rattle.ia_step.proofs.Resuming.{resumed, write_given, took_nothing, no_write, result_put}
 use Rattle.ia_step.proofs.state.State.took.Goals as goal
