@@ -12,7 +12,7 @@ use Rattle.machines.specs.Examples.{IsStack, bytes_of, program_of, EndsAt, write
 use Rattle.machines.proofs.Steps.{addi_then, addi_more, sc_exits, sc_asks, sc_dries, sc_last, off_ends}
 use Rattle.machines.proofs.Traces.{Trace, traced}
 use Rattle.machines.proofs.Small.{EndsSilently, ends_at}
-use Rattle.machines.proofs.Stack.{each_true, last_false, block_zeros, stack_held, stack_writable, stack_zeros, behind_stack, and_false}
+use Rattle.machines.proofs.Stack.{last_false, block_zeros, stack_all_held, stack_all_writable, stack_zeros, behind_stack, and_false}
 
 write_asks : (rights : Rights) (g : Guest) (fd count buffer : ℕ) (bs : List ℕ) → g.locs 0 ≡ 4 → g.locs 3 ≡ fd → g.locs 4 ≡ buffer → g.locs 5 ≡ count → each_byte rights.held count buffer ≡ true → block count buffer g.bytes ≡ bs → system_call rights g ≡ asks (Write fd bs) g
 write_asks rights g fd count buffer bs e0 e3 e4 e5 held blk = rw (e0, e3, e4, e5, held, blk) refl
@@ -29,10 +29,10 @@ behind_code n a h = and_false (leb 0x10000000 a) (ltb a (0x10000000 + n)) (le-lt
 
 module _ (program stack : List ℕ) (is : IsStack stack) where
   held : (n : ℕ) → n ≤ 64 → each_byte (is_held (program_of program stack).segments) n 0x7F0FFFC0 ≡ true
-  held n h = each_true (is_held (program_of program stack).segments) n 0x7F0FFFC0 (λ i lt. stack_held program stack is ((0x7F0FFFC0 + i) % 2 ^ 32) (omega arith) (omega arith))
+  held n h = stack_all_held program stack is n 0x7F0FFFC0 (omega arith) (omega arith)
 
   writable : (n : ℕ) → n ≤ 64 → each_byte (is_writable (program_of program stack).segments) n 0x7F0FFFC0 ≡ true
-  writable n h = each_true (is_writable (program_of program stack).segments) n 0x7F0FFFC0 (λ i lt. stack_writable program stack is ((0x7F0FFFC0 + i) % 2 ^ 32) (omega arith) (omega arith))
+  writable n h = stack_all_writable program stack is n 0x7F0FFFC0 (omega arith) (omega arith)
 
   zeros : (n : ℕ) → n ≤ 64 → length (bytes_of program) ≤ 4096 → block n 0x7F0FFFC0 (first_bytes (program_of program stack).segments) ≡ replicate n 0
   zeros n h short = block_zeros n 0x7F0FFFC0 (first_bytes (program_of program stack).segments) (λ i lt. stack_zeros program stack is ((0x7F0FFFC0 + i) % 2 ^ 32) (behind_code (length (bytes_of program)) ((0x7F0FFFC0 + i) % 2 ^ 32) (omega arith)))

@@ -4,19 +4,20 @@ use Rattle.std.proofs.Math.Path.{fun_ext}
 use Rattle.std.proofs.lemmas.List.{get_or-drop}
 use Rattle.std.proofs.lemmas.Grind.{get_or_after_one}
 use Rattle.space.specs.declared.call.End.{End}
-use Rattle.space.specs.declared.call.End.TheVariants.{Exit, Trap, Illegal, Outside}
+use Rattle.space.specs.declared.call.End.TheVariants.{Exit, Trap, Illegal, Outside, DivideFault}
 use Rattle.space.specs.Reports.{ListedCall, Read, Write, Close, AnswerValue, Given, Gives, Fails, given, listed}
 use Rattle.runs.specs.Machine.{Outcome, Goes, Asks, Ends, run, reported}
 use Rattle.ia_codec.specs.declared.op.Op.{Op}
-use Rattle.ia_codec.specs.declared.op.Op.TheVariants.{AluTo, AluFrom, AluImm, Unary, MovTo, MovFrom, MovImm, MovByteTo, Extend, Jcc, Jmp, Int80, Int3, Ud2}
-use Rattle.ia_codec.specs.declared.op.UnaryOp.TheVariants.{Neg}
-use Rattle.ia_codec.specs.declared.op.ExtendOp.TheVariants.{MovzxByte}
+use Rattle.ia_codec.specs.declared.op.Op.TheVariants.{Unary, Jcc, Jmp, JmpTo, Int80, Int3, Ud2}
+use Rattle.ia_codec.specs.declared.op.UnaryOp.{UnaryOp}
+use Rattle.ia_codec.specs.declared.op.UnaryOp.TheVariants.{Div, Idiv}
+use Rattle.ia_codec.specs.declared.op.Operand.{Operand}
 use Rattle.ia_codec.specs.Effect.{Flags}
 use Rattle.ia_codec.specs.Rows.{host_row}
 use Rattle.reg_map.specs.Registers.{eax, ecx, edx, ebx}
 use Rattle.machines.specs.Memory.{Rights, Code, is_code, each_byte, block, rights_of, code_of, first_bytes}
 use Rattle.machines.specs.Readings.{Fetched}
-use Rattle.machines.specs.Host.{Choice, Core, Host, no_choice, choice_at, chosen_word, chosen_flags, values_of, does, goes_to, plain, jumps, after_given, asks, system_call, acts, executes, op_bytes, host_step, host_machine, host_start}
+use Rattle.machines.specs.Host.{Choice, Core, Host, no_choice, choice_at, chosen_word, chosen_flags, place_of, values_of, reads, does, goes_to, plain, jumps, jumps_to, faults_on, divides, unary_acts, after_given, asks, system_call, acts, executes, op_bytes, host_step, host_machine, host_start}
 use Rattle.machines.specs.Laws.{UsesFirstChoices}
 use Rattle.machines.proofs.Tests.{below}
 
@@ -69,22 +70,29 @@ module _ (c d : List Choice) where
         similar_cond (eqb (core.regs eax) 4) _ _ _ _ (similar_cond (each_byte rights.held (core.regs edx) (core.regs ecx)) _ _ _ _ (asks_similar (Write (core.regs ebx) (block (core.regs edx) (core.regs ecx) core.bytes)) next core eip) (both_end Outside)) (
         similar_cond (eqb (core.regs eax) 6) _ _ _ _ (asks_similar (Close (core.regs ebx)) next core eip) (both_go (after_given rights next (Fails 38) (state core eip c)).core next))))
 
+    jumps_to_similar : (target : Option ℕ) (core : Core) (eip : ℕ) → Similar c d (jumps_to rights target (state core eip c)) (jumps_to rights target (state core eip d))
+    jumps_to_similar None core eip = both_end Outside
+    jumps_to_similar (Some target) core eip = both_go core target
+
+    divides_similar : (op : Op) (on : Operand) (next : ℕ) (core : Core) (eip : ℕ) → Similar c d (divides rights op on next (state core eip c)) (divides rights op on next (state core eip d))
+    divides_similar op on next core eip =
+        subst (λ (x : Choice). Similar c d (divides rights op on next (state core eip c)) (cond (faults_on rights op x core (reads rights core (place_of 4 on core.regs))) (Ends DivideFault) (plain rights op next (state core eip d)))) same
+        (similar_cond (faults_on rights op (choice_at c 0) core (reads rights core (place_of 4 on core.regs))) _ _ _ _ (both_end DivideFault) (plain_similar op next core eip))
+
+    unary_similar : (op : UnaryOp) (on : Operand) (next : ℕ) (core : Core) (eip : ℕ) → Similar c d (unary_acts rights op on next (state core eip c)) (unary_acts rights op on next (state core eip d))
+    unary_similar Div on next core eip = divides_similar (Unary Div on) on next core eip
+    unary_similar Idiv on next core eip = divides_similar (Unary Idiv on) on next core eip
+    unary_similar op on next core eip = plain_similar (Unary op on) next core eip
+
     acts_similar : (op : Op) (next : ℕ) (core : Core) (eip : ℕ) → Similar c d (acts rights op next (state core eip c)) (acts rights op next (state core eip d))
-    acts_similar (AluTo op to from) next core eip = plain_similar (AluTo op to from) next core eip
-    acts_similar (AluFrom op to from) next core eip = plain_similar (AluFrom op to from) next core eip
-    acts_similar (AluImm op to imm) next core eip = plain_similar (AluImm op to imm) next core eip
-    acts_similar (Unary Neg on) next core eip = plain_similar (Unary Neg on) next core eip
-    acts_similar (MovTo to from) next core eip = plain_similar (MovTo to from) next core eip
-    acts_similar (MovFrom to from) next core eip = plain_similar (MovFrom to from) next core eip
-    acts_similar (MovImm to imm) next core eip = plain_similar (MovImm to imm) next core eip
-    acts_similar (MovByteTo to from) next core eip = plain_similar (MovByteTo to from) next core eip
-    acts_similar (Extend MovzxByte to from) next core eip = plain_similar (Extend MovzxByte to from) next core eip
+    acts_similar (Unary op on) next core eip = unary_similar op on next core eip
     acts_similar (Jcc condition rel) next core eip = jumps_similar (Jcc condition rel) rel next core eip
     acts_similar (Jmp rel) next core eip = jumps_similar (Jmp rel) rel next core eip
+    acts_similar (JmpTo to) next core eip = jumps_to_similar (reads rights core (place_of 4 to core.regs)) core eip
     acts_similar Int80 next core eip = system_similar next core eip
     acts_similar Int3 next core eip = both_end Trap
     acts_similar Ud2 next core eip = both_end Illegal
-    acts_similar _ next core eip = both_end Illegal
+    acts_similar op next core eip = plain_similar op next core eip
 
     executes_similar : (f : Option Fetched) (core : Core) (eip : ℕ) → Similar c d (executes rights f (state core eip c)) (executes rights f (state core eip d))
     executes_similar None core eip = both_end Illegal

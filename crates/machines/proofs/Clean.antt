@@ -1,17 +1,19 @@
 -- With no right to read the code a step is the same, and clean, or goes outside.
 use Rattle.std.proofs.Common.{◌≡◌, ℕ, zero, suc, ◌+◌, ◌%◌, ◌^◌, ◌⊎◌, inl, inr, Bool, true, false, cond, not, ◌&&◌, eqb, List, [], ◌∷◌, Option, Some, None, refl, ap}
-use Rattle.space.specs.declared.call.End.TheVariants.{Outside}
+use Rattle.space.specs.declared.call.End.TheVariants.{Outside, DivideFault}
 use Rattle.space.specs.Reports.{AnswerValue}
 use Rattle.runs.specs.Machine.{Outcome, Goes, Asks, Ends, After, Along, AgreesFrom}
 use Rattle.runs.specs.Laws.{IsNarrower, StaysIn}
 use Rattle.ia_codec.specs.declared.op.Op.{Op}
-use Rattle.ia_codec.specs.declared.op.Op.TheVariants.{AluTo, AluFrom, AluImm, Unary, MovTo, MovFrom, MovImm, MovByteTo, Extend, Jcc, Jmp, Int80, Int3, Ud2}
-use Rattle.ia_codec.specs.declared.op.UnaryOp.TheVariants.{Neg}
-use Rattle.ia_codec.specs.declared.op.ExtendOp.TheVariants.{MovzxByte}
+use Rattle.ia_codec.specs.declared.op.Op.TheVariants.{AluTo, AluFrom, AluImm, TestReg, TestImm, Unary, Imul, MovFrom, MovByteFrom, Shift, ShiftByCl, Extend, Cmov, Bsr, JmpTo, Int80}
+use Rattle.ia_codec.specs.declared.op.UnaryOp.{UnaryOp}
+use Rattle.ia_codec.specs.declared.op.UnaryOp.TheVariants.{Not, Neg, Div, Idiv}
+use Rattle.ia_codec.specs.declared.op.Operand.{Operand}
+use Rattle.ia_codec.specs.declared.op.Operand.TheVariants.{Reg}
 use Rattle.reg_map.specs.Registers.{eax, ecx, edx}
 use Rattle.machines.specs.Memory.{each_byte, Rights, Code, is_code}
 use Rattle.machines.specs.Readings.{Fetched}
-use Rattle.machines.specs.Host.{Core, Host, Place, Register, Memory, place_of, choice_at, has_result, bind, reads, gives_to, goes_to, system_call, acts, executes, op_bytes, host_step}
+use Rattle.machines.specs.Host.{Core, Host, Place, Register, Memory, place_of, choice_at, has_result, extend_size, bind, reads, gives_to, changes, sets, sets_byte, multiplies, goes_to, jumps_to, faults_on, unary_acts, system_call, acts, executes, op_bytes, host_step}
 use Rattle.machines.specs.Agreement.{is_apart, reads_apart, fetched_apart, IsClean, without}
 use Rattle.machines.proofs.Tests.{both, first_of_both, second_of_both, equal}
 
@@ -66,21 +68,56 @@ module _ (rights : Rights) (code : Code) where
       by_number true e = by_write (equal (h.core.regs 0) 4 e) (held_less (h.core.regs edx) (h.core.regs ecx))
       by_number false e = inl (rw e refl, rw e refl)
 
+  -- the forms of ops: one that changes a place, one that changes a register by a place, one that sets a place or byte
+  changes_less : (op : Op) (result : Bool) (to : Place) (y next : ℕ) (h : Host) → Less (goes_to rights next h (changes narrow op (choice_at h.choices 0) result to h.core (Some y))) (goes_to rights next h (changes rights op (choice_at h.choices 0) result to h.core (Some y))) (is_apart code to)
+  changes_less op result to y next h = one_read next h to (λ x. gives_to rights op (choice_at h.choices 0) result to h.core x y) (reads_less h.core to)
+
+  takes_less : (op : Op) (result : Bool) (to : ℕ) (from : Place) (next : ℕ) (h : Host) → Less (goes_to rights next h (changes narrow op (choice_at h.choices 0) result (Register to) h.core (reads narrow h.core from))) (goes_to rights next h (changes rights op (choice_at h.choices 0) result (Register to) h.core (reads rights h.core from))) (is_apart code from)
+  takes_less op result to from next h = one_read next h from (gives_to rights op (choice_at h.choices 0) result (Register to) h.core (h.core.regs to)) (reads_less h.core from)
+
+  sets_less : (op : Op) (to from : Place) (next : ℕ) (h : Host) → Less (goes_to rights next h (sets narrow op (choice_at h.choices 0) to h.core (reads narrow h.core from))) (goes_to rights next h (sets rights op (choice_at h.choices 0) to h.core (reads rights h.core from))) (is_apart code from)
+  sets_less op to from next h = one_read next h from (gives_to rights op (choice_at h.choices 0) true to h.core 0) (reads_less h.core from)
+
+  sets_byte_less : (op : Op) (to : Operand) (from : Place) (next : ℕ) (h : Host) → Less (goes_to rights next h (sets_byte narrow op (choice_at h.choices 0) to h.core (reads narrow h.core from))) (goes_to rights next h (sets_byte rights op (choice_at h.choices 0) to h.core (reads rights h.core from))) (is_apart code from)
+  sets_byte_less op to from next h = one_read next h from (λ y. sets_byte rights op (choice_at h.choices 0) to h.core (Some y)) (reads_less h.core from)
+
+  -- products, and divisions, which may fault
+  multiplies_less : (op : Op) (from : Place) (next : ℕ) (h : Host) → Less (goes_to rights next h (multiplies narrow op (choice_at h.choices 0) h.core (reads narrow h.core from))) (goes_to rights next h (multiplies rights op (choice_at h.choices 0) h.core (reads rights h.core from))) (is_apart code from)
+  multiplies_less op from next h = one_read next h from (λ y. multiplies rights op (choice_at h.choices 0) h.core (Some y)) (reads_less h.core from)
+
+  divides_less : (op : Op) (from : Place) (next : ℕ) (h : Host) → ReadsLess h.core from → Less (cond (faults_on narrow op (choice_at h.choices 0) h.core (reads narrow h.core from)) (Ends DivideFault) (goes_to rights next h (multiplies narrow op (choice_at h.choices 0) h.core (reads narrow h.core from)))) (cond (faults_on rights op (choice_at h.choices 0) h.core (reads rights h.core from)) (Ends DivideFault) (goes_to rights next h (multiplies rights op (choice_at h.choices 0) h.core (reads rights h.core from)))) (is_apart code from)
+  divides_less op from next h (inl e) = inl (ap (λ (o : Option ℕ). cond (faults_on rights op (choice_at h.choices 0) h.core o) (Ends DivideFault) (goes_to rights next h (multiplies rights op (choice_at h.choices 0) h.core o))) e.0, e.1)
+  divides_less op from next h (inr e) = inr (ap (λ (o : Option ℕ). cond (faults_on rights op (choice_at h.choices 0) h.core o) (Ends DivideFault) (goes_to rights next h (multiplies rights op (choice_at h.choices 0) h.core o))) e)
+
+  unary_less : (op : UnaryOp) (on : Operand) (next : ℕ) (h : Host) → Less (unary_acts narrow op on next h) (unary_acts rights op on next h) (is_apart code (place_of 4 on h.core.regs))
+  unary_less Not on next h = sets_less (Unary Not on) (place_of 4 on h.core.regs) (place_of 4 on h.core.regs) next h
+  unary_less Neg on next h = sets_less (Unary Neg on) (place_of 4 on h.core.regs) (place_of 4 on h.core.regs) next h
+  unary_less Div on next h = divides_less (Unary Div on) (place_of 4 on h.core.regs) next h (reads_less h.core (place_of 4 on h.core.regs))
+  unary_less Idiv on next h = divides_less (Unary Idiv on) (place_of 4 on h.core.regs) next h (reads_less h.core (place_of 4 on h.core.regs))
+  unary_less op on next h = multiplies_less (Unary op on) (place_of 4 on h.core.regs) next h
+
+  jumps_to_less : (to : Place) (h : Host) → ReadsLess h.core to → Less (jumps_to narrow (reads narrow h.core to) h) (jumps_to rights (reads rights h.core to) h) (is_apart code to)
+  jumps_to_less to h (inl e) = inl (ap (λ (o : Option ℕ). jumps_to rights o h) e.0, e.1)
+  jumps_to_less to h (inr e) = inr (ap (λ (o : Option ℕ). jumps_to rights o h) e)
+
   acts_less : (op : Op) (next : ℕ) (h : Host) → Less (acts narrow op next h) (acts rights op next h) (reads_apart code op h.core)
-  acts_less (AluTo op to from) next h = one_read next h (place_of 4 to h.core.regs) (λ x. gives_to rights (AluTo op to from) (choice_at h.choices 0) (has_result op) (place_of 4 to h.core.regs) h.core x (h.core.regs from)) (reads_less h.core (place_of 4 to h.core.regs))
-  acts_less (AluFrom op to from) next h = one_read next h (place_of 4 from h.core.regs) (gives_to rights (AluFrom op to from) (choice_at h.choices 0) (has_result op) (Register to) h.core (h.core.regs to)) (reads_less h.core (place_of 4 from h.core.regs))
-  acts_less (AluImm op to imm) next h = one_read next h (place_of 4 to h.core.regs) (λ x. gives_to rights (AluImm op to imm) (choice_at h.choices 0) (has_result op) (place_of 4 to h.core.regs) h.core x imm) (reads_less h.core (place_of 4 to h.core.regs))
-  acts_less (Unary Neg on) next h = one_read next h (place_of 4 on h.core.regs) (gives_to rights (Unary Neg on) (choice_at h.choices 0) true (place_of 4 on h.core.regs) h.core 0) (reads_less h.core (place_of 4 on h.core.regs))
-  acts_less (MovTo to from) next h = inl (refl, refl)
-  acts_less (MovFrom to from) next h = one_read next h (place_of 4 from h.core.regs) (gives_to rights (MovFrom to from) (choice_at h.choices 0) true (Register to) h.core 0) (reads_less h.core (place_of 4 from h.core.regs))
-  acts_less (MovImm to imm) next h = inl (refl, refl)
-  acts_less (MovByteTo to from) next h = inl (refl, refl)
-  acts_less (Extend MovzxByte to from) next h = one_read next h (place_of 1 from h.core.regs) (gives_to rights (Extend MovzxByte to from) (choice_at h.choices 0) true (Register to) h.core 0) (reads_less h.core (place_of 1 from h.core.regs))
-  acts_less (Jcc condition rel) next h = inl (refl, refl)
-  acts_less (Jmp rel) next h = inl (refl, refl)
+  acts_less (AluTo op to from) next h = changes_less (AluTo op to from) (has_result op) (place_of 4 to h.core.regs) (h.core.regs from) next h
+  acts_less (AluFrom op to from) next h = takes_less (AluFrom op to from) (has_result op) to (place_of 4 from h.core.regs) next h
+  acts_less (AluImm op to imm) next h = changes_less (AluImm op to imm) (has_result op) (place_of 4 to h.core.regs) imm next h
+  acts_less (TestReg a b) next h = changes_less (TestReg a b) false (place_of 4 a h.core.regs) (h.core.regs b) next h
+  acts_less (TestImm a imm) next h = changes_less (TestImm a imm) false (place_of 4 a h.core.regs) imm next h
+  acts_less (Unary op on) next h = unary_less op on next h
+  acts_less (Imul to from) next h = takes_less (Imul to from) true to (place_of 4 from h.core.regs) next h
+  acts_less (MovFrom to from) next h = sets_less (MovFrom to from) (Register to) (place_of 4 from h.core.regs) next h
+  acts_less (MovByteFrom to from) next h = sets_byte_less (MovByteFrom to from) (Reg to) (place_of 1 from h.core.regs) next h
+  acts_less (Shift op to by) next h = changes_less (Shift op to by) true (place_of 4 to h.core.regs) by next h
+  acts_less (ShiftByCl op to) next h = changes_less (ShiftByCl op to) true (place_of 4 to h.core.regs) (h.core.regs ecx % 2 ^ 8) next h
+  acts_less (Extend op to from) next h = sets_less (Extend op to from) (Register to) (place_of (extend_size op) from h.core.regs) next h
+  acts_less (Cmov condition to from) next h = takes_less (Cmov condition to from) true to (place_of 4 from h.core.regs) next h
+  acts_less (Bsr to from) next h = takes_less (Bsr to from) true to (place_of 4 from h.core.regs) next h
+  acts_less (JmpTo to) next h = jumps_to_less (place_of 4 to h.core.regs) h (reads_less h.core (place_of 4 to h.core.regs))
   acts_less Int80 next h = system_less next h
-  acts_less Int3 next h = inl (refl, refl)
-  acts_less Ud2 next h = inl (refl, refl)
+  -- the others read no memory
   acts_less _ next h = inl (refl, refl)
 
   executes_less : (f : Option Fetched) (h : Host) → Less (executes narrow f h) (executes rights f h) (fetched_apart code f h.core)

@@ -17,7 +17,7 @@ use Rattle.ia_codec.proofs.Spelt.{read-spelt}
 use Rattle.machines.specs.Memory.{is_code, each_byte, load, store, is_held, is_writable, rights_of, code_of}
 use Rattle.machines.specs.Readings.{Fetched, ReadsOps}
 use Rattle.machines.specs.Host.{Choice, Host, op_bytes, acts, executes, host_machine, host_start}
-use Rattle.machines.specs.HostExamples.{host_program, HostEndsAt, host_exit, host_unknown, host_branch, host_no_branch, host_memory, host_code_write, host_trap, host_ud2, host_nothing, host_off}
+use Rattle.machines.specs.HostExamples.{host_program, HostEndsAt, HostEndsBy, host_exit, host_unknown, host_branch, host_no_branch, host_memory, host_code_write, host_trap, host_ud2, host_nothing, host_off}
 use Rattle.machines.proofs.Tests.{upto}
 use Rattle.machines.proofs.Traces.{Silent, last, more, trace_of, traced, not_over}
 
@@ -28,10 +28,10 @@ module _ {ops : List ℕ → Option Fetched} (reads : ReadsOps ops) (p : Program
       ap (λ (b : Bool). cond b (executes (rights_of p) (ops (op_bytes (code_of p) h.eip)) h) (Ends Outside)) inside
       ∙ ap (λ (o : Option Fetched). executes (rights_of p) o h) (reads.only (op_bytes (code_of p) h.eip) f (record { profile = profile; within = upto len _ long; front = front }))
 
-  op_more : {h : Host} {k : ℕ} {e : End} {t : Host} (op : Op) (len : ℕ) → is_code (code_of p) h.eip ≡ true → IsInProfile op → leb len (length (op_bytes (code_of p) h.eip)) ≡ true → take len (op_bytes (code_of p) h.eip) ≡ spelling op → acts (rights_of p) op ((h.eip + len) % 2 ^ 32) h ≡ Goes t → Silent (host_machine ops p) k t e → Silent (host_machine ops p) (suc k) h e
+  pub op_more : {h : Host} {k : ℕ} {e : End} {t : Host} (op : Op) (len : ℕ) → is_code (code_of p) h.eip ≡ true → IsInProfile op → leb len (length (op_bytes (code_of p) h.eip)) ≡ true → take len (op_bytes (code_of p) h.eip) ≡ spelling op → acts (rights_of p) op ((h.eip + len) % 2 ^ 32) h ≡ Goes t → Silent (host_machine ops p) k t e → Silent (host_machine ops p) (suc k) h e
   op_more {h = h} op len inside profile long front goes rest = more (stepped h op len inside profile long front ∙ goes) rest
 
-  op_last : {h : Host} (e : End) (op : Op) (len : ℕ) → is_code (code_of p) h.eip ≡ true → IsInProfile op → leb len (length (op_bytes (code_of p) h.eip)) ≡ true → take len (op_bytes (code_of p) h.eip) ≡ spelling op → acts (rights_of p) op ((h.eip + len) % 2 ^ 32) h ≡ Ends e → Silent (host_machine ops p) 1 h e
+  pub op_last : {h : Host} (e : End) (op : Op) (len : ℕ) → is_code (code_of p) h.eip ≡ true → IsInProfile op → leb len (length (op_bytes (code_of p) h.eip)) ≡ true → take len (op_bytes (code_of p) h.eip) ≡ spelling op → acts (rights_of p) op ((h.eip + len) % 2 ^ 32) h ≡ Ends e → Silent (host_machine ops p) 1 h e
   op_last {h = h} e op len inside profile long front ends = last (stepped h op len inside profile long front ∙ ends)
 
   -- bytes that are read as no op from the left begin with no spelling
@@ -50,19 +50,25 @@ module _ {ops : List ℕ → Option Fetched} (reads : ReadsOps ops) (p : Program
   off_last : {h : Host} → is_code (code_of p) h.eip ≡ false → Silent (host_machine ops p) 1 h Outside
   off_last {h = h} outside = last (ap (λ (b : Bool). cond b (executes (rights_of p) (ops (op_bytes (code_of p) h.eip)) h) (Ends Outside)) outside)
 
-abbrev HostEndsSilently : List ℕ → ℕ → End → Type 0
-HostEndsSilently code k e = (ops : List ℕ → Option Fetched) → ReadsOps ops → (choices : List Choice) → Silent (host_machine ops (host_program code)) k (host_start (host_program code) choices) e
+abbrev pub EndsSilentlyBy : List ℕ → ℕ → (List Choice → End) → Type 0
+EndsSilentlyBy code k how = (ops : List ℕ → Option Fetched) → ReadsOps ops → (choices : List Choice) → Silent (host_machine ops (host_program code)) k (host_start (host_program code) choices) (how choices)
 
-ends_at : (code : List ℕ) (k : ℕ) (e : End) → HostEndsSilently code k e → HostEndsAt code k e
-ends_at code k e silent = record {
-  before = λ n h ops reads answers choices. not_over (host_machine ops (host_program code)) n k answers (host_start (host_program code) choices) e (silent ops reads choices) h;
-  after = λ n h ops reads answers choices. traced (host_machine ops (host_program code)) n k answers (host_start (host_program code) choices) (ended e) (trace_of (host_machine ops (host_program code)) k answers (host_start (host_program code) choices) e (silent ops reads choices)) h;
+pub ends_by : (code : List ℕ) (k : ℕ) (how : List Choice → End) → EndsSilentlyBy code k how → HostEndsBy code k how
+ends_by code k how silent = record {
+  before = λ n h ops reads answers choices. not_over (host_machine ops (host_program code)) n k answers (host_start (host_program code) choices) (how choices) (silent ops reads choices) h;
+  after = λ n h ops reads answers choices. traced (host_machine ops (host_program code)) n k answers (host_start (host_program code) choices) (ended (how choices)) (trace_of (host_machine ops (host_program code)) k answers (host_start (host_program code) choices) (how choices) (silent ops reads choices)) h;
 }
 
-reg_eax : IsReg 0
+abbrev pub HostEndsSilently : List ℕ → ℕ → End → Type 0
+HostEndsSilently code k e = EndsSilentlyBy code k (λ choices. e)
+
+pub ends_at : (code : List ℕ) (k : ℕ) (e : End) → HostEndsSilently code k e → HostEndsAt code k e
+ends_at code k e silent = ends_by code k (λ choices. e) silent
+
+pub reg_eax : IsReg 0
 reg_eax = (omega arith, omega arith, omega arith)
 
-reg_ebx : IsReg 3
+pub reg_ebx : IsReg 3
 reg_ebx = (omega arith, omega arith, omega arith)
 
 exits : HostEndsSilently host_exit 3 (Exit 7)

@@ -11,3 +11,6 @@ pub mod Choices
 pub mod HostSmall
 pub mod Clean
 pub mod Homes
+pub mod AccessSmall
+pub mod BranchSmall
+pub mod HostOpsSmall

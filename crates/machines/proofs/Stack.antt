@@ -51,6 +51,12 @@ module _ (program stack : List ℕ) (is : IsStack stack) where
   unfolding is_writable
   stack_writable a low high = rw (within a low high) refl
 
+  pub stack_all_held : (n a : ℕ) → 0x7F000000 ≤ a → a + n ≤ 0x7F100000 → each_byte (is_held (program_of program stack).segments) n a ≡ true
+  stack_all_held n a low high = each_true (is_held (program_of program stack).segments) n a (λ i lt. stack_held ((a + i) % 2 ^ 32) (omega arith) (omega arith))
+
+  pub stack_all_writable : (n a : ℕ) → 0x7F000000 ≤ a → a + n ≤ 0x7F100000 → each_byte (is_writable (program_of program stack).segments) n a ≡ true
+  stack_all_writable n a low high = each_true (is_writable (program_of program stack).segments) n a (λ i lt. stack_writable ((a + i) % 2 ^ 32) (omega arith) (omega arith))
+
   zero_either : (b : Bool) (x : ℕ) → x ≡ 0 → cond b x 0 ≡ 0
   zero_either true x h = h
   zero_either false x h = refl

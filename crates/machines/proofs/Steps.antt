@@ -11,8 +11,8 @@ use Rattle.ppc_isa.specs.declared.instr.ImmediateOp.TheVariants.{Addi}
 use Rattle.ppc_isa.specs.declared.instr.ArithmeticOp.TheVariants.{Add}
 use Rattle.ppc_isa.specs.Reading.{read}
 use Rattle.ppc_isa.proofs.ReadWords.{read_legal}
-use Rattle.ppc_isa.specs.Legal.{IsWordOf, layout}
-use Rattle.ppc_isa.specs.Word.{word}
+use Rattle.ppc_isa.specs.Legal.{IsWordOf, Allowed, layout}
+use Rattle.ppc_isa.specs.Word.{Field, word, Fit}
 use Rattle.reg_map.specs.Words.{sign_extended}
 use Rattle.machines.specs.Memory.{rights_of, code_of}
 use Rattle.machines.specs.Readings.{ReadsWords}
@@ -46,6 +46,15 @@ module _ {words : ℕ → Option Instr} (reads : ReadsWords words) (p : Program)
 
   pub sc : is_code_word (code_of p) g.next ≡ true → here p g ≡ 0x44000002 → guest_machine words p g ≡ system_call (rights_of p) g
   sc inside spelled = stepped SystemCall inside (record { spelled = spelled; legal = record { fit = (omega arith, (omega arith, (omega arith, (omega arith, tt)))); allowed = tt } })
+
+-- each value fits its field
+abbrev fit_all : List Field → Bool
+fit_all [] = true
+fit_all (f ∷ fs) = ltb f.value (2 ^ f.width) && fit_all fs
+
+they_fit : (fs : List Field) → fit_all fs ≡ true → Fit fs
+they_fit [] h = tt
+they_fit (f ∷ fs) h = (below f.value (2 ^ f.width) (first_of_both (ltb f.value (2 ^ f.width)) (fit_all fs) h), they_fit fs (second_of_both (ltb f.value (2 ^ f.width)) (fit_all fs) h))
 
 -- the step from an address that is no code word
 pub off : (words : ℕ → Option Instr) (p : Program) (g : Guest) → is_code_word (code_of p) g.next ≡ false → guest_machine words p g ≡ Ends Outside
@@ -95,6 +104,16 @@ module _ {words : ℕ → Option Instr} (reads : ReadsWords words) (p : Program)
       let ha = below a 32 (first_of_both (ltb a 32) (ltb b 32) both_fit) in
       let hb = below b 32 (second_of_both (ltb a 32) (ltb b 32) both_fit) in
       more (stepped reads p g (Arithmetic Add d a b false) inside (record { spelled = spelled; legal = record { fit = (omega arith, (hd, (ha, (hb, (omega arith, (omega arith, tt)))))); allowed = tt } })) rest
+
+  -- any instruction; one that goes on where a test says so; and one that ends the run
+  pub word_more : {g t : Guest} {k : ℕ} {e : End} (i : Instr) → is_code_word (code_of p) g.next ≡ true → here p g ≡ word (layout i) → fit_all (layout i) ≡ true → Allowed i → acts (rights_of p) i (effect_of i g) g ≡ Goes t → Silent (guest_machine words p) k t e → Silent (guest_machine words p) (suc k) g e
+  word_more {g = g} i inside spelled fits allowed does rest = more (stepped reads p g i inside (record { spelled = spelled; legal = record { fit = they_fit (layout i) fits; allowed = allowed } }) ∙ does) rest
+
+  pub word_more_if : {g t : Guest} {k : ℕ} {e : End} (i : Instr) (b : Bool) → is_code_word (code_of p) g.next ≡ true → here p g ≡ word (layout i) → fit_all (layout i) ≡ true → Allowed i → acts (rights_of p) i (effect_of i g) g ≡ cond b (Goes t) (Ends Outside) → b ≡ true → Silent (guest_machine words p) k t e → Silent (guest_machine words p) (suc k) g e
+  word_more_if {t = t} i b inside spelled fits allowed does held rest = word_more i inside spelled fits allowed (does ∙ ap (λ (x : Bool). cond x (Goes t) (Ends Outside)) held) rest
+
+  pub word_last : {g : Guest} (e : End) (i : Instr) → is_code_word (code_of p) g.next ≡ true → here p g ≡ word (layout i) → fit_all (layout i) ≡ true → Allowed i → acts (rights_of p) i (effect_of i g) g ≡ Ends e → Silent (guest_machine words p) 1 g e
+  word_last {g = g} e i inside spelled fits allowed does = last (stepped reads p g i inside (record { spelled = spelled; legal = record { fit = they_fit (layout i) fits; allowed = allowed } }) ∙ does)
 
   -- a word that the opcodes don't name is read as nothing
   unread : (w : ℕ) → read w ≡ None → words w ≡ None

@@ -4,14 +4,12 @@ use Rattle.space.specs.declared.program.Program.{Program}
 use Rattle.runs.specs.Machine.{Outcome, AgreesFrom, Anywhere}
 use Rattle.ppc_isa.specs.declared.instr.Instr.{Instr}
 use Rattle.ia_codec.specs.declared.op.Op.{Op}
-use Rattle.ia_codec.specs.declared.op.Op.TheVariants.{AluTo, AluFrom, AluImm, Unary, MovTo, MovFrom, MovImm, MovByteTo, Extend, Jcc, Jmp, Int80, Int3, Ud2}
-use Rattle.ia_codec.specs.declared.op.UnaryOp.TheVariants.{Neg}
-use Rattle.ia_codec.specs.declared.op.ExtendOp.TheVariants.{MovzxByte}
+use Rattle.ia_codec.specs.declared.op.Op.TheVariants.{AluTo, AluFrom, AluImm, TestReg, TestImm, Unary, Imul, MovFrom, MovByteFrom, Shift, ShiftByCl, Extend, Cmov, Bsr, JmpTo, Int80}
 use Rattle.reg_map.specs.Registers.{eax, ecx, edx}
 use Rattle.machines.specs.Memory.{each_byte, Rights, rights_of, Code, is_code, code_of}
 use Rattle.machines.specs.Readings.{ReadsWords, Fetched, ReadsOps}
 use Rattle.machines.specs.Guest.{guest_machine, guest_start}
-use Rattle.machines.specs.Host.{Choice, Core, Host, Place, Register, Memory, place_of, op_bytes, host_step, host_machine, host_start}
+use Rattle.machines.specs.Host.{Choice, Core, Host, Place, Register, Memory, place_of, extend_size, op_bytes, host_step, host_machine, host_start}
 
 module _ (code : Code) where
   -- no byte of the code is among these
@@ -24,18 +22,20 @@ module _ (code : Code) where
   reads_apart (AluTo op to from) core = is_apart (place_of 4 to core.regs)
   reads_apart (AluFrom op to from) core = is_apart (place_of 4 from core.regs)
   reads_apart (AluImm op to imm) core = is_apart (place_of 4 to core.regs)
-  reads_apart (Unary Neg on) core = is_apart (place_of 4 on core.regs)
-  reads_apart (MovTo to from) core = true
+  reads_apart (TestReg a b) core = is_apart (place_of 4 a core.regs)
+  reads_apart (TestImm a imm) core = is_apart (place_of 4 a core.regs)
+  reads_apart (Unary op on) core = is_apart (place_of 4 on core.regs)
+  reads_apart (Imul to from) core = is_apart (place_of 4 from core.regs)
   reads_apart (MovFrom to from) core = is_apart (place_of 4 from core.regs)
-  reads_apart (MovImm to imm) core = true
-  reads_apart (MovByteTo to from) core = true
-  reads_apart (Extend MovzxByte to from) core = is_apart (place_of 1 from core.regs)
-  reads_apart (Jcc condition rel) core = true
-  reads_apart (Jmp rel) core = true
+  reads_apart (MovByteFrom to from) core = is_apart (place_of 1 from core.regs)
+  reads_apart (Shift op to by) core = is_apart (place_of 4 to core.regs)
+  reads_apart (ShiftByCl op to) core = is_apart (place_of 4 to core.regs)
+  reads_apart (Extend op to from) core = is_apart (place_of (extend_size op) from core.regs)
+  reads_apart (Cmov condition to from) core = is_apart (place_of 4 from core.regs)
+  reads_apart (Bsr to from) core = is_apart (place_of 4 from core.regs)
+  reads_apart (JmpTo to) core = is_apart (place_of 4 to core.regs)
   reads_apart Int80 core = cond (eqb (core.regs eax) 4) (is_apart (Memory (core.regs edx) (core.regs ecx))) true
-  reads_apart Int3 core = true
-  reads_apart Ud2 core = true
-  -- ops without a row so far end the run and read nothing
+  -- the others read no memory: moves to memory, lea, setcc, jumps by an offset, and what works on registers alone
   reads_apart _ core = true
 
   abbrev pub fetched_apart : Option Fetched → Core → Bool

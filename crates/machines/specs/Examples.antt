@@ -121,3 +121,43 @@ add_negative = 0x38600005 ∷ 0x3880FFFE ∷ 0x7C632214 ∷ 0x38000001 ∷ 0x440
 -- a word that is no instruction
 abbrev pub no_instruction : List ℕ
 no_instruction = 0 ∷ []
+
+-- addis r4,0,0x1000; lwz r3,0(r4); addi r0,0,1; sc: loads the first word of the program
+abbrev pub load_word : List ℕ
+load_word = 0x3C801000 ∷ 0x80640000 ∷ 0x38000001 ∷ 0x44000002 ∷ []
+
+-- stwu r1,-16(r1); lbz r3,3(r1); addi r0,0,1; sc: the lowest byte of the old r1 stands last
+abbrev pub push_frame : List ℕ
+push_frame = 0x9421FFF0 ∷ 0x88610003 ∷ 0x38000001 ∷ 0x44000002 ∷ []
+
+-- addi r30,0,5; addi r31,0,9; stmw r30,0(r1); lmw r29,0(r1); addi r3,r30,0; addi r0,0,1; sc
+abbrev pub move_many : List ℕ
+move_many = 0x3BC00005 ∷ 0x3BE00009 ∷ 0xBFC10000 ∷ 0xBBA10000 ∷ 0x387E0000 ∷ 0x38000001 ∷ 0x44000002 ∷ []
+
+-- addi r3,0,7; cmpi 1,r3,8; bc 12,4,8; addi r3,0,1; addi r0,0,1; sc: a branch where LT of field 1 is set
+abbrev pub compare : List ℕ
+compare = 0x38600007 ∷ 0x2C830008 ∷ 0x41840008 ∷ 0x38600001 ∷ 0x38000001 ∷ 0x44000002 ∷ []
+
+-- addi r3,0,3; addic. r3,r3,-1; mfspr r4,1; mfcr r5; add r3,r4,r5; addi r0,0,1; sc: CA and GT of field 0 are set
+abbrev pub record_and_carry : List ℕ
+record_and_carry = 0x38600003 ∷ 0x3463FFFF ∷ 0x7C8102A6 ∷ 0x7CA00026 ∷ 0x7C642A14 ∷ 0x38000001 ∷ 0x44000002 ∷ []
+
+-- addi r4,0,2; mtspr 9,r4; addi r3,r3,1; bc 16,0,-4; addi r0,0,1; sc: a loop that CTR counts
+abbrev pub count_down : List ℕ
+count_down = 0x38800002 ∷ 0x7C8903A6 ∷ 0x38630001 ∷ 0x4200FFFC ∷ 0x38000001 ∷ 0x44000002 ∷ []
+
+-- b 16 with LK; mfspr r3,8; addi r0,0,1; sc; bclr 20,0 with LK: back to the second word, and LR has the address behind
+abbrev pub link : List ℕ
+link = 0x48000011 ∷ 0x7C6802A6 ∷ 0x38000001 ∷ 0x44000002 ∷ 0x4E800021 ∷ []
+
+-- twi 16,r0,0; twi 4,r0,0: 0 isn't less than 0, but equal
+abbrev pub trap_equal : List ℕ
+trap_equal = 0x0E000000 ∷ 0x0C800000 ∷ []
+
+-- lwz r3,0(0)
+abbrev pub load_outside : List ℕ
+load_outside = 0x80600000 ∷ []
+
+-- addis r4,0,0x1000; stw r3,0(r4): no code is written
+abbrev pub store_to_code : List ℕ
+store_to_code = 0x3C801000 ∷ 0x90640000 ∷ []

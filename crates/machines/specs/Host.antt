@@ -1,15 +1,17 @@
 -- The host: a profile of IA-32 (Intel SDM, volume 2) with the calls of Linux.
 use Rattle.std.specs.Prelude.{ℕ, ◌+◌, ◌-◌, ◌*◌, ◌/◌, ◌%◌, ◌^◌, Bool, true, false, cond, ◌||◌, eqb, ltb, List, get_or, take, drop, Option, Some, None}
-use Rattle.space.specs.declared.call.End.TheVariants.{Exit, Trap, Illegal, Outside}
+use Rattle.space.specs.declared.call.End.TheVariants.{Exit, Trap, Illegal, Outside, DivideFault}
 use Rattle.space.specs.declared.program.Program.{Program}
 use Rattle.space.specs.Reports.{ListedCall, Read, Write, Close, AnswerValue, Report, Given, Gives, Fails, given}
 use Rattle.runs.specs.Machine.{Outcome, Goes, Asks, Ends, run}
 use Rattle.ia_codec.specs.declared.op.Op.{Op}
-use Rattle.ia_codec.specs.declared.op.Op.TheVariants.{AluTo, AluFrom, AluImm, Unary, MovTo, MovFrom, MovImm, MovByteTo, Extend, Jcc, Jmp, Int80, Int3, Ud2}
+use Rattle.ia_codec.specs.declared.op.Op.TheVariants.{AluTo, AluFrom, AluImm, TestReg, TestImm, Unary, Imul, MovTo, MovFrom, MovImm, MovToImm, MovHalfTo, MovByteTo, MovByteFrom, Shift, ShiftByCl, Lea, Extend, Bswap, Set, Cmov, Bsr, Cdq, Jcc, Jmp, JmpTo, Int80, Int3, Ud2}
 use Rattle.ia_codec.specs.declared.op.AluOp.{AluOp}
 use Rattle.ia_codec.specs.declared.op.AluOp.TheVariants.{Add, Or, Adc, Sbb, And, Sub, Xor, Cmp}
-use Rattle.ia_codec.specs.declared.op.UnaryOp.TheVariants.{Neg}
-use Rattle.ia_codec.specs.declared.op.ExtendOp.TheVariants.{MovzxByte}
+use Rattle.ia_codec.specs.declared.op.UnaryOp.{UnaryOp}
+use Rattle.ia_codec.specs.declared.op.UnaryOp.TheVariants.{Not, Neg, Div, Idiv}
+use Rattle.ia_codec.specs.declared.op.ExtendOp.{ExtendOp}
+use Rattle.ia_codec.specs.declared.op.ExtendOp.TheVariants.{MovzxByte, MovzxHalf, MovsxByte, MovsxHalf}
 use Rattle.ia_codec.specs.declared.op.Operand.{Operand}
 use Rattle.ia_codec.specs.declared.op.Operand.TheVariants.{Reg, Abs, Base, Pair}
 use Rattle.ia_codec.specs.Effect.{Flags, HostValues, HostEffect}
@@ -93,6 +95,27 @@ has_result Sub = true
 has_result Xor = true
 has_result Cmp = false
 
+-- how many bytes movzx and movsx read
+abbrev pub extend_size : ExtendOp → ℕ
+extend_size MovzxByte = 1
+extend_size MovsxByte = 1
+extend_size MovzxHalf = 2
+extend_size MovsxHalf = 2
+
+-- the address of a place in memory, which lea gives
+abbrev pub address_in : Place → ℕ
+address_in (Register r) = 0
+address_in (Memory size address) = address
+
+-- a byte, as it goes to an operand: in al, cl or dl it leaves the other bytes of the register as they are
+abbrev pub byte_for : Operand → Core → ℕ → ℕ
+byte_for (Reg r) core b = 256 * (core.regs r / 256) + b
+byte_for _ core b = b
+
+-- products and divisions: both halves in eax and edx
+abbrev pub puts_both : HostEffect → Core → Core
+puts_both e core = record core { regs = update (update core.regs eax e.result) edx e.high; flags = e.flags }
+
 module _ (rights : Rights) where
   -- an access that isn't held gives None
   abbrev pub reads : Core → Place → Option ℕ
@@ -120,17 +143,45 @@ module _ (rights : Rights) where
   abbrev pub sets : Op → Choice → Place → Core → Option ℕ → Option Core
   sets op c place core y = bind y (gives_to op c true place core 0)
 
-  -- what an op does that is no jump and no call; None where an access isn't held
+  -- the same for an op whose result is one byte, of a register also
+  abbrev pub sets_byte : Op → Choice → Operand → Core → Option ℕ → Option Core
+  sets_byte op c to core y = bind y (λ y. puts core (place_of 1 to core.regs) (byte_for to core (host_row op (values_of c core 0 y)).result))
+
+  -- an op on eax and its operand whose results go to eax and edx
+  abbrev pub multiplies : Op → Choice → Core → Option ℕ → Option Core
+  multiplies op c core y = bind y (λ y. Some (puts_both (host_row op (values_of c core (core.regs eax) y)) core))
+
+  -- not and neg change their operand; the others are products and divisions
+  abbrev pub unary_does : UnaryOp → Operand → Choice → Core → Option Core
+  unary_does Not on c core = sets (Unary Not on) c (place_of 4 on core.regs) core (reads core (place_of 4 on core.regs))
+  unary_does Neg on c core = sets (Unary Neg on) c (place_of 4 on core.regs) core (reads core (place_of 4 on core.regs))
+  unary_does op on c core = multiplies (Unary op on) c core (reads core (place_of 4 on core.regs))
+
+  -- what an op does that is no jump, no call and no end of the run; None where an access isn't held
   abbrev pub does : Op → Choice → Core → Option Core
   does (AluTo op to from) c core = changes (AluTo op to from) c (has_result op) (place_of 4 to core.regs) core (Some (core.regs from))
   does (AluFrom op to from) c core = changes (AluFrom op to from) c (has_result op) (Register to) core (reads core (place_of 4 from core.regs))
   does (AluImm op to imm) c core = changes (AluImm op to imm) c (has_result op) (place_of 4 to core.regs) core (Some imm)
-  does (Unary op on) c core = sets (Unary op on) c (place_of 4 on core.regs) core (reads core (place_of 4 on core.regs))
+  does (TestReg a b) c core = changes (TestReg a b) c false (place_of 4 a core.regs) core (Some (core.regs b))
+  does (TestImm a imm) c core = changes (TestImm a imm) c false (place_of 4 a core.regs) core (Some imm)
+  does (Unary op on) c core = unary_does op on c core
+  does (Imul to from) c core = changes (Imul to from) c true (Register to) core (reads core (place_of 4 from core.regs))
   does (MovTo to from) c core = sets (MovTo to from) c (place_of 4 to core.regs) core (Some (core.regs from))
   does (MovFrom to from) c core = sets (MovFrom to from) c (Register to) core (reads core (place_of 4 from core.regs))
   does (MovImm to imm) c core = sets (MovImm to imm) c (Register to) core (Some imm)
+  does (MovToImm to imm) c core = sets (MovToImm to imm) c (place_of 4 to core.regs) core (Some imm)
+  does (MovHalfTo to from) c core = sets (MovHalfTo to from) c (place_of 2 to core.regs) core (Some (core.regs from))
   does (MovByteTo to from) c core = sets (MovByteTo to from) c (place_of 1 to core.regs) core (Some (core.regs from))
-  does (Extend op to from) c core = sets (Extend op to from) c (Register to) core (reads core (place_of 1 from core.regs))
+  does (MovByteFrom to from) c core = sets_byte (MovByteFrom to from) c (Reg to) core (reads core (place_of 1 from core.regs))
+  does (Shift op to by) c core = changes (Shift op to by) c true (place_of 4 to core.regs) core (Some by)
+  does (ShiftByCl op to) c core = changes (ShiftByCl op to) c true (place_of 4 to core.regs) core (Some (core.regs ecx % 2 ^ 8))
+  does (Lea to from) c core = sets (Lea to from) c (Register to) core (Some (address_in (place_of 4 from core.regs)))
+  does (Extend op to from) c core = sets (Extend op to from) c (Register to) core (reads core (place_of (extend_size op) from core.regs))
+  does (Bswap reg) c core = sets (Bswap reg) c (Register reg) core (Some (core.regs reg))
+  does (Set condition to) c core = sets_byte (Set condition to) c to core (Some 0)
+  does (Cmov condition to from) c core = changes (Cmov condition to from) c true (Register to) core (reads core (place_of 4 from core.regs))
+  does (Bsr to from) c core = changes (Bsr to from) c true (Register to) core (reads core (place_of 4 from core.regs))
+  does Cdq c core = Some (record core { regs = update core.regs edx (host_row Cdq (values_of c core (core.regs eax) 0)).high })
   does _ c core = None
 
   -- the state behind an op
@@ -175,24 +226,35 @@ module _ (rights : Rights) where
       cond (eqb number 6) (asks (Close fd) next h) (
       Goes (after_given next (Fails 38) h)))))
 
+  -- a jump to the address that an operand holds
+  abbrev pub jumps_to : Option ℕ → Host → Outcome Host
+  jumps_to None h = Ends Outside
+  jumps_to (Some target) h = goes_to target h (Some h.core)
+
+  -- whether a division faults on its operand, which is read before
+  abbrev pub faults_on : Op → Choice → Core → Option ℕ → Bool
+  faults_on op c core None = false
+  faults_on op c core (Some y) = (host_row op (values_of c core (core.regs eax) y)).faults
+
+  -- a division that faults ends the run and changes nothing
+  abbrev pub divides : Op → Operand → ℕ → Host → Outcome Host
+  divides op on next h = cond (faults_on op (choice_at h.choices 0) h.core (reads h.core (place_of 4 on h.core.regs))) (Ends DivideFault) (plain op next h)
+
+  abbrev pub unary_acts : UnaryOp → Operand → ℕ → Host → Outcome Host
+  unary_acts Div on next h = divides (Unary Div on) on next h
+  unary_acts Idiv on next h = divides (Unary Idiv on) on next h
+  unary_acts op on next h = plain (Unary op on) next h
+
   -- what the machine does with an op, where the next one stands at `next`
   abbrev pub acts : Op → ℕ → Host → Outcome Host
-  acts (AluTo op to from) next h = plain (AluTo op to from) next h
-  acts (AluFrom op to from) next h = plain (AluFrom op to from) next h
-  acts (AluImm op to imm) next h = plain (AluImm op to imm) next h
-  acts (Unary Neg on) next h = plain (Unary Neg on) next h
-  acts (MovTo to from) next h = plain (MovTo to from) next h
-  acts (MovFrom to from) next h = plain (MovFrom to from) next h
-  acts (MovImm to imm) next h = plain (MovImm to imm) next h
-  acts (MovByteTo to from) next h = plain (MovByteTo to from) next h
-  acts (Extend MovzxByte to from) next h = plain (Extend MovzxByte to from) next h
+  acts (Unary op on) next h = unary_acts op on next h
   acts (Jcc condition rel) next h = jumps (Jcc condition rel) rel next h
   acts (Jmp rel) next h = jumps (Jmp rel) rel next h
+  acts (JmpTo to) next h = jumps_to (reads h.core (place_of 4 to h.core.regs)) h
   acts Int80 next h = system_call next h
   acts Int3 next h = Ends Trap
   acts Ud2 next h = Ends Illegal
-  -- ops without a row so far; no translation has one
-  acts _ next h = Ends Illegal
+  acts op next h = plain op next h
 
   abbrev pub executes : Option Fetched → Host → Outcome Host
   executes None h = Ends Illegal

@@ -17,10 +17,14 @@ host_program code = record {
   code = 0;
 }
 
--- The run makes no call, and from step `last` on has ended so, whatever the answers and whatever the processor chooses.
-pub record HostEndsAt (code : List ℕ) (last : ℕ) (how : End) : Type 0 where
+-- The run makes no call, and from step `last` on has ended as the processor's choices have it, whatever the answers.
+pub record HostEndsBy (code : List ℕ) (last : ℕ) (how : List Choice → End) : Type 0 where
   pub before : (n : ℕ) → n < last → (ops : List ℕ → Option Fetched) → ReadsOps ops → (answers : List AnswerValue) (choices : List Choice) → host_run ops (host_program code) answers choices n ≡ ended Running
-  pub after : (n : ℕ) → last ≤ n → (ops : List ℕ → Option Fetched) → ReadsOps ops → (answers : List AnswerValue) (choices : List Choice) → host_run ops (host_program code) answers choices n ≡ ended how
+  pub after : (n : ℕ) → last ≤ n → (ops : List ℕ → Option Fetched) → ReadsOps ops → (answers : List AnswerValue) (choices : List Choice) → host_run ops (host_program code) answers choices n ≡ ended (how choices)
+
+-- whatever it chooses
+abbrev pub HostEndsAt : List ℕ → ℕ → End → Type 0
+HostEndsAt code last how = HostEndsBy code last (λ choices. how)
 
 -- mov eax,1; mov ebx,7; int 0x80
 abbrev pub host_exit : List ℕ
@@ -58,3 +62,23 @@ host_nothing = 0 ∷ []
 
 abbrev pub host_off : List ℕ
 host_off = 0x89 ∷ 0xC0 ∷ []
+
+-- mov eax,1; mov ecx,2; shl eax,cl; setl cl; movzx ebx,cl; mov eax,1; int 0x80: 4 is positive, so OF decides
+abbrev pub host_shift : List ℕ
+host_shift = 0xB8 ∷ 1 ∷ 0 ∷ 0 ∷ 0 ∷ 0xB9 ∷ 2 ∷ 0 ∷ 0 ∷ 0 ∷ 0xD3 ∷ 0xE0 ∷ 0x0F ∷ 0x9C ∷ 0xC1 ∷ 0x0F ∷ 0xB6 ∷ 0xD9 ∷ 0xB8 ∷ 1 ∷ 0 ∷ 0 ∷ 0 ∷ 0xCD ∷ 0x80 ∷ []
+
+-- mov eax,0x11223344; cmp eax,eax; sete al; mov ebx,eax; mov eax,1; int 0x80
+abbrev pub host_byte : List ℕ
+host_byte = 0xB8 ∷ 0x44 ∷ 0x33 ∷ 0x22 ∷ 0x11 ∷ 0x39 ∷ 0xC0 ∷ 0x0F ∷ 0x94 ∷ 0xC0 ∷ 0x89 ∷ 0xC3 ∷ 0xB8 ∷ 1 ∷ 0 ∷ 0 ∷ 0 ∷ 0xCD ∷ 0x80 ∷ []
+
+-- mov eax,17; mov edx,0; mov ecx,5; div ecx; lea ebx,[eax+edx*8]; mov eax,1; int 0x80
+abbrev pub host_divide : List ℕ
+host_divide = 0xB8 ∷ 17 ∷ 0 ∷ 0 ∷ 0 ∷ 0xBA ∷ 0 ∷ 0 ∷ 0 ∷ 0 ∷ 0xB9 ∷ 5 ∷ 0 ∷ 0 ∷ 0 ∷ 0xF7 ∷ 0xF1 ∷ 0x8D ∷ 0x9C ∷ 0xD0 ∷ 0 ∷ 0 ∷ 0 ∷ 0 ∷ 0xB8 ∷ 1 ∷ 0 ∷ 0 ∷ 0 ∷ 0xCD ∷ 0x80 ∷ []
+
+-- mov ecx,0; div ecx
+abbrev pub host_divide_by_zero : List ℕ
+host_divide_by_zero = 0xB9 ∷ 0 ∷ 0 ∷ 0 ∷ 0 ∷ 0xF7 ∷ 0xF1 ∷ []
+
+-- mov dword [0x09000000],0x08048015; jmp [0x09000000]; mov ebx,9; mov ebx,7; mov eax,1; int 0x80
+abbrev pub host_jump : List ℕ
+host_jump = 0xC7 ∷ 0x05 ∷ 0 ∷ 0 ∷ 0 ∷ 9 ∷ 0x15 ∷ 0x80 ∷ 4 ∷ 8 ∷ 0xFF ∷ 0x25 ∷ 0 ∷ 0 ∷ 0 ∷ 9 ∷ 0xBB ∷ 9 ∷ 0 ∷ 0 ∷ 0 ∷ 0xBB ∷ 7 ∷ 0 ∷ 0 ∷ 0 ∷ 0xB8 ∷ 1 ∷ 0 ∷ 0 ∷ 0 ∷ 0xCD ∷ 0x80 ∷ []

@@ -5,8 +5,9 @@ mod examples;
 mod laws;
 
 pub use examples::{
-    adds_a_negative_number, answers_to_a_read, answers_to_a_write, branches, exits_with_seven,
-    host_programs, illegal_word, unknown_call_is_an_error, writes_from_the_stack,
+    accesses, adds_a_negative_number, answers_to_a_read, answers_to_a_write, branches,
+    branches_on_conditions, exits_with_seven, host_operations, host_programs, illegal_word,
+    records_and_carries, unknown_call_is_an_error, writes_from_the_stack,
 };
 pub use laws::{
     agrees_if_narrowly, codes_are_unique, guest_keeps_calls, guest_stays_over, homes_are_apart,

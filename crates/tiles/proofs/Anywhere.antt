@@ -2,12 +2,13 @@
 use Rattle.std.proofs.Common.{◌≡◌, ℕ, Bool, true, false, cond, ◌||◌, eqb, Option, Some, None, refl}
 use Rattle.space.specs.Reports.{ListedCall, Read, Write, Close, Given, Gives, Fails, given}
 use Rattle.ia_codec.specs.declared.op.Op.{Op}
-use Rattle.ia_codec.specs.declared.op.Op.TheVariants.{AluTo, AluFrom, AluImm, Unary, MovTo, MovFrom, MovImm, MovByteTo, Extend, Jcc, Jmp, Int80}
-use Rattle.ia_codec.specs.declared.op.UnaryOp.TheVariants.{Neg}
-use Rattle.ia_codec.specs.declared.op.ExtendOp.TheVariants.{MovzxByte}
+use Rattle.ia_codec.specs.declared.op.Op.TheVariants.{Unary, Jcc, Jmp, JmpTo, Int80, Int3, Ud2}
+use Rattle.ia_codec.specs.declared.op.UnaryOp.{UnaryOp}
+use Rattle.ia_codec.specs.declared.op.UnaryOp.TheVariants.{Div, Idiv}
+use Rattle.ia_codec.specs.declared.op.Operand.{Operand}
 use Rattle.runs.specs.Machine.{Outcome, Asks}
 use Rattle.machines.specs.Memory.{Rights, block, each_byte}
-use Rattle.machines.specs.Host.{Core, Host, choice_at, does, goes_to, after_given, asks, system_call, plain}
+use Rattle.machines.specs.Host.{Core, Host, place_of, choice_at, reads, does, goes_to, faults_on, divides, unary_acts, after_given, asks, system_call, plain}
 use Rattle.tiles.specs.Perform.{then_at}
 use Rattle.tiles.specs.Laws.{OpsStandAnywhere}
 
@@ -40,20 +41,23 @@ module _ (rights : Rights) (next : ℕ) (h : Host) where
       by_test (eqb (h.core.regs 0) 4) _ _ _ _ (by_test (each_byte rights.held (h.core.regs 2) (h.core.regs 1)) _ _ _ _ (asks_at (Write (h.core.regs 3) (block (h.core.regs 2) (h.core.regs 1) h.core.bytes))) refl) (
       by_test (eqb (h.core.regs 0) 6) _ _ _ _ (asks_at (Close (h.core.regs 3))) refl)))
 
+  divides_at : (op : Op) (on : Operand) → divides rights op on next h ≡ then_at next (divides rights op on 0 at_zero)
+  divides_at op on = by_test (faults_on rights op (choice_at h.choices 0) h.core (reads rights h.core (place_of 4 on h.core.regs))) _ _ _ _ refl (plain_at op)
+
+  unary_at : (op : UnaryOp) (on : Operand) → unary_acts rights op on next h ≡ then_at next (unary_acts rights op on 0 at_zero)
+  unary_at Div on = divides_at (Unary Div on) on
+  unary_at Idiv on = divides_at (Unary Idiv on) on
+  unary_at op on = plain_at (Unary op on)
+
 no_truth : true ≡ false → ⊥
 no_truth e = cc
 
 pub ops_stand_anywhere : OpsStandAnywhere
-ops_stand_anywhere rights (AluTo op to from) next h n = plain_at rights next h (AluTo op to from)
-ops_stand_anywhere rights (AluFrom op to from) next h n = plain_at rights next h (AluFrom op to from)
-ops_stand_anywhere rights (AluImm op to imm) next h n = plain_at rights next h (AluImm op to imm)
-ops_stand_anywhere rights (Unary Neg on) next h n = plain_at rights next h (Unary Neg on)
-ops_stand_anywhere rights (MovTo to from) next h n = plain_at rights next h (MovTo to from)
-ops_stand_anywhere rights (MovFrom to from) next h n = plain_at rights next h (MovFrom to from)
-ops_stand_anywhere rights (MovImm to imm) next h n = plain_at rights next h (MovImm to imm)
-ops_stand_anywhere rights (MovByteTo to from) next h n = plain_at rights next h (MovByteTo to from)
-ops_stand_anywhere rights (Extend MovzxByte to from) next h n = plain_at rights next h (Extend MovzxByte to from)
+ops_stand_anywhere rights (Unary op on) next h n = unary_at rights next h op on
 ops_stand_anywhere rights (Jcc condition rel) next h n = absurd (no_truth n)
 ops_stand_anywhere rights (Jmp rel) next h n = absurd (no_truth n)
+ops_stand_anywhere rights (JmpTo to) next h n = absurd (no_truth n)
 ops_stand_anywhere rights Int80 next h n = call_at rights next h
-ops_stand_anywhere rights _ next h n = refl
+ops_stand_anywhere rights Int3 next h n = refl
+ops_stand_anywhere rights Ud2 next h n = refl
+ops_stand_anywhere rights op next h n = plain_at rights next h op

@@ -2,18 +2,20 @@
 use Rattle.std.proofs.Common.{◌≡◌, ℕ, zero, suc, ◌+◌, ◌/◌, ◌%◌, ◌^◌, ◌≤◌, min, Bool, true, false, cond, ◌||◌, eqb, List, [], ◌∷◌, length, take, Option, Some, None, refl, sym, ap, ◌∙◌, subst, arith}
 use Rattle.std.proofs.lemmas.List.{length-take-le}
 use Rattle.space.specs.Reports.{Read, Write, Close, AnswerValue, Got, Took, Error, Given, Gives, Fails, given}
-use Rattle.space.specs.declared.call.End.TheVariants.{Outside, Exit}
+use Rattle.space.specs.declared.call.End.TheVariants.{Outside, Exit, DivideFault}
 use Rattle.runs.specs.Machine.{Outcome, Goes, Asks, Ends}
 use Rattle.ia_codec.specs.declared.op.Op.{Op}
-use Rattle.ia_codec.specs.declared.op.Op.TheVariants.{AluTo, AluFrom, AluImm, Unary, MovTo, MovFrom, MovImm, MovByteTo, Extend, Jcc, Jmp, Int80, Int3, Ud2}
-use Rattle.ia_codec.specs.declared.op.UnaryOp.TheVariants.{Neg}
-use Rattle.ia_codec.specs.declared.op.ExtendOp.TheVariants.{MovzxByte}
+use Rattle.ia_codec.specs.declared.op.Op.TheVariants.{AluTo, AluFrom, AluImm, TestReg, TestImm, Unary, Imul, MovTo, MovFrom, MovImm, MovToImm, MovHalfTo, MovByteTo, MovByteFrom, Shift, ShiftByCl, Lea, Extend, Bswap, Set, Cmov, Bsr, Cdq, Jcc, Jmp, JmpTo, Int80, Int3, Ud2}
+use Rattle.ia_codec.specs.declared.op.UnaryOp.{UnaryOp}
+use Rattle.ia_codec.specs.declared.op.UnaryOp.TheVariants.{Not, Neg, Div, Idiv}
+use Rattle.ia_codec.specs.declared.op.Operand.{Operand}
+use Rattle.ia_codec.specs.declared.op.Operand.TheVariants.{Reg}
 use Rattle.ia_codec.specs.Effect.{HostEffect}
 use Rattle.ia_codec.specs.Rows.{host_row}
 use Rattle.reg_map.specs.Registers.{eax, ecx, edx, ebx}
 use Rattle.machines.specs.Memory.{update, store, block, put_block, each_byte, Rights, is_code}
 use Rattle.machines.specs.Readings.{Fetched}
-use Rattle.machines.specs.Host.{Choice, Core, Host, Place, Register, Memory, place_of, choice_at, has_result, bind, values_of, reads, puts, put_at, leaves, gives_to, changes, sets, does, goes_to, plain, jumps, after_given, asks, system_call, acts, executes, op_bytes, host_step}
+use Rattle.machines.specs.Host.{Choice, Core, Host, Place, Register, Memory, place_of, choice_at, has_result, extend_size, address_in, byte_for, puts_both, bind, values_of, reads, puts, put_at, leaves, gives_to, changes, sets, sets_byte, multiplies, unary_does, does, goes_to, plain, jumps, jumps_to, faults_on, divides, unary_acts, after_given, asks, system_call, acts, executes, op_bytes, host_step}
 use Rattle.machines.proofs.Tests.{first_of_both, second_of_both}
 use Rattle.tiles.proofs.Memory.{update_other}
 use Rattle.simulation.specs.Setting.{Setting, KeepsUnwrittenBy}
@@ -100,6 +102,45 @@ module _ (rights : Rights) where
   sets_keep : (op : Op) (c : Choice) (place : Place) (core : Core) (y : Option ℕ) → Keeps core (sets rights op c place core y)
   sets_keep op c place core y = bind_keeps core y (gives_to rights op c true place core 0) (gives_keep op c true place core 0)
 
+  sets_byte_keeps : (op : Op) (c : Choice) (to : Operand) (core : Core) (y : Option ℕ) → Keeps core (sets_byte rights op c to core y)
+  sets_byte_keeps op c to core y =
+      let byte : ℕ → ℕ = λ v. byte_for to core (host_row op (values_of c core 0 v)).result in
+      bind_keeps core y (λ v. puts rights core (place_of 1 to core.regs) (byte v)) (λ v. puts_keep core (place_of 1 to core.regs) (byte v))
+
+  multiplies_keep : (op : Op) (c : Choice) (core : Core) (y : Option ℕ) → Keeps core (multiplies rights op c core y)
+  multiplies_keep op c core y = bind_keeps core y (λ v. Some (puts_both (host_row op (values_of c core (core.regs eax) v)) core)) (λ v a off. refl)
+
+  unary_keeps : (op : UnaryOp) (on : Operand) (c : Choice) (core : Core) → Keeps core (unary_does rights op on c core)
+  unary_keeps Not on c core = sets_keep (Unary Not on) c (place_of 4 on core.regs) core (reads rights core (place_of 4 on core.regs))
+  unary_keeps Neg on c core = sets_keep (Unary Neg on) c (place_of 4 on core.regs) core (reads rights core (place_of 4 on core.regs))
+  unary_keeps op on c core = multiplies_keep (Unary op on) c core (reads rights core (place_of 4 on core.regs))
+
+  does_keeps : (op : Op) (c : Choice) (core : Core) → Keeps core (does rights op c core)
+  does_keeps (AluTo op to from) c core = changes_keep (AluTo op to from) c (has_result op) (place_of 4 to core.regs) core (Some (core.regs from))
+  does_keeps (AluFrom op to from) c core = changes_keep (AluFrom op to from) c (has_result op) (Register to) core (reads rights core (place_of 4 from core.regs))
+  does_keeps (AluImm op to imm) c core = changes_keep (AluImm op to imm) c (has_result op) (place_of 4 to core.regs) core (Some imm)
+  does_keeps (TestReg a b) c core = changes_keep (TestReg a b) c false (place_of 4 a core.regs) core (Some (core.regs b))
+  does_keeps (TestImm a imm) c core = changes_keep (TestImm a imm) c false (place_of 4 a core.regs) core (Some imm)
+  does_keeps (Unary op on) c core = unary_keeps op on c core
+  does_keeps (Imul to from) c core = changes_keep (Imul to from) c true (Register to) core (reads rights core (place_of 4 from core.regs))
+  does_keeps (MovTo to from) c core = sets_keep (MovTo to from) c (place_of 4 to core.regs) core (Some (core.regs from))
+  does_keeps (MovFrom to from) c core = sets_keep (MovFrom to from) c (Register to) core (reads rights core (place_of 4 from core.regs))
+  does_keeps (MovImm to imm) c core = sets_keep (MovImm to imm) c (Register to) core (Some imm)
+  does_keeps (MovToImm to imm) c core = sets_keep (MovToImm to imm) c (place_of 4 to core.regs) core (Some imm)
+  does_keeps (MovHalfTo to from) c core = sets_keep (MovHalfTo to from) c (place_of 2 to core.regs) core (Some (core.regs from))
+  does_keeps (MovByteTo to from) c core = sets_keep (MovByteTo to from) c (place_of 1 to core.regs) core (Some (core.regs from))
+  does_keeps (MovByteFrom to from) c core = sets_byte_keeps (MovByteFrom to from) c (Reg to) core (reads rights core (place_of 1 from core.regs))
+  does_keeps (Shift op to by) c core = changes_keep (Shift op to by) c true (place_of 4 to core.regs) core (Some by)
+  does_keeps (ShiftByCl op to) c core = changes_keep (ShiftByCl op to) c true (place_of 4 to core.regs) core (Some (core.regs ecx % 2 ^ 8))
+  does_keeps (Lea to from) c core = sets_keep (Lea to from) c (Register to) core (Some (address_in (place_of 4 from core.regs)))
+  does_keeps (Extend op to from) c core = sets_keep (Extend op to from) c (Register to) core (reads rights core (place_of (extend_size op) from core.regs))
+  does_keeps (Bswap reg) c core = sets_keep (Bswap reg) c (Register reg) core (Some (core.regs reg))
+  does_keeps (Set condition to) c core = sets_byte_keeps (Set condition to) c to core (Some 0)
+  does_keeps (Cmov condition to from) c core = changes_keep (Cmov condition to from) c true (Register to) core (reads rights core (place_of 4 from core.regs))
+  does_keeps (Bsr to from) c core = changes_keep (Bsr to from) c true (Register to) core (reads rights core (place_of 4 from core.regs))
+  does_keeps Cdq c core = λ a off. refl
+  does_keeps _ c core = tt
+
   goes_keep : (next : ℕ) (h : Host) (o : Option Core) → Keeps h.core o → StepKeepsUnwritten rights h.core (goes_to rights next h o)
   goes_keep next h None keeps = tt
   goes_keep next h (Some core) keeps = keeps
@@ -155,25 +196,34 @@ module _ (rights : Rights) where
   abbrev first : Host → Choice
   first h = choice_at h.choices 0
 
-  plain_keeps : (op : Op) (next : ℕ) (h : Host) → Keeps h.core (does rights op (first h) h.core) → StepKeepsUnwritten rights h.core (plain rights op next h)
-  plain_keeps op next h keeps = goes_keep next h (does rights op (first h) h.core) keeps
+  plain_keeps : (op : Op) (next : ℕ) (h : Host) → StepKeepsUnwritten rights h.core (plain rights op next h)
+  plain_keeps op next h = goes_keep next h (does rights op (first h) h.core) (does_keeps op (first h) h.core)
+
+  divides_keep : (op : Op) (on : Operand) (next : ℕ) (h : Host) → StepKeepsUnwritten rights h.core (divides rights op on next h)
+  divides_keep op on next h = by_fault (faults_on rights op (first h) h.core (reads rights h.core (place_of 4 on h.core.regs)))
+    where
+      by_fault : (b : Bool) → StepKeepsUnwritten rights h.core (cond b (Ends DivideFault) (plain rights op next h))
+      by_fault true = tt
+      by_fault false = plain_keeps op next h
+
+  unary_acts_keep : (op : UnaryOp) (on : Operand) (next : ℕ) (h : Host) → StepKeepsUnwritten rights h.core (unary_acts rights op on next h)
+  unary_acts_keep Div on next h = divides_keep (Unary Div on) on next h
+  unary_acts_keep Idiv on next h = divides_keep (Unary Idiv on) on next h
+  unary_acts_keep op on next h = plain_keeps (Unary op on) next h
+
+  jumps_to_keep : (target : Option ℕ) (h : Host) → StepKeepsUnwritten rights h.core (jumps_to rights target h)
+  jumps_to_keep None h = tt
+  jumps_to_keep (Some target) h = λ a off. refl
 
   acts_keep : (op : Op) (next : ℕ) (h : Host) → StepKeepsUnwritten rights h.core (acts rights op next h)
-  acts_keep (AluTo op to from) next h = plain_keeps (AluTo op to from) next h (changes_keep (AluTo op to from) (first h) (has_result op) (place_of 4 to h.core.regs) h.core (Some (h.core.regs from)))
-  acts_keep (AluFrom op to from) next h = plain_keeps (AluFrom op to from) next h (changes_keep (AluFrom op to from) (first h) (has_result op) (Register to) h.core (reads rights h.core (place_of 4 from h.core.regs)))
-  acts_keep (AluImm op to imm) next h = plain_keeps (AluImm op to imm) next h (changes_keep (AluImm op to imm) (first h) (has_result op) (place_of 4 to h.core.regs) h.core (Some imm))
-  acts_keep (Unary Neg on) next h = plain_keeps (Unary Neg on) next h (sets_keep (Unary Neg on) (first h) (place_of 4 on h.core.regs) h.core (reads rights h.core (place_of 4 on h.core.regs)))
-  acts_keep (MovTo to from) next h = plain_keeps (MovTo to from) next h (sets_keep (MovTo to from) (first h) (place_of 4 to h.core.regs) h.core (Some (h.core.regs from)))
-  acts_keep (MovFrom to from) next h = plain_keeps (MovFrom to from) next h (sets_keep (MovFrom to from) (first h) (Register to) h.core (reads rights h.core (place_of 4 from h.core.regs)))
-  acts_keep (MovImm to imm) next h = plain_keeps (MovImm to imm) next h (sets_keep (MovImm to imm) (first h) (Register to) h.core (Some imm))
-  acts_keep (MovByteTo to from) next h = plain_keeps (MovByteTo to from) next h (sets_keep (MovByteTo to from) (first h) (place_of 1 to h.core.regs) h.core (Some (h.core.regs from)))
-  acts_keep (Extend MovzxByte to from) next h = plain_keeps (Extend MovzxByte to from) next h (sets_keep (Extend MovzxByte to from) (first h) (Register to) h.core (reads rights h.core (place_of 1 from h.core.regs)))
+  acts_keep (Unary op on) next h = unary_acts_keep op on next h
   acts_keep (Jcc condition rel) next h = jumps_keep (Jcc condition rel) rel next h
   acts_keep (Jmp rel) next h = jumps_keep (Jmp rel) rel next h
+  acts_keep (JmpTo to) next h = jumps_to_keep (reads rights h.core (place_of 4 to h.core.regs)) h
   acts_keep Int80 next h = system_keeps next h
   acts_keep Int3 next h = tt
   acts_keep Ud2 next h = tt
-  acts_keep _ next h = tt
+  acts_keep op next h = plain_keeps op next h
 
   executes_keep : (f : Option Fetched) (h : Host) → StepKeepsUnwritten rights h.core (executes rights f h)
   executes_keep None h = tt
