@@ -1,0 +1,3 @@
+pub mod ShiftTerms
+pub mod LogicTerms
+pub mod Meant

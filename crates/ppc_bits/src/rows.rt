@@ -1,0 +1,106 @@
+//! Logic by its ops.
+
+ghost use Rattle.std.specs.Prelude.{◌≡◌, ◌≤◌, ℕ, Bool, IfOk, OnOk, OnErr, IsTrue};
+ghost use Rattle.ppc_isa.specs.Locations.{logic_immediate_records};
+ghost use Rattle.ppc_isa.specs.LogicRows.{logic_immediate};
+ghost use Rattle.ppc_isa.specs.Recording.{gives_a};
+ghost use Rattle.ppc_isa.specs.Rows.{logic_row, logic_unary_row};
+ghost use Rattle.ppc_parts.specs.Meanings.{IsOwned, EffectOwned, values_of, effect_of};
+ghost use Rattle.ppc_bits.specs.LogicTerms.{logic_immediate_term, logic_term};
+ghost use Rattle.ppc_bits.specs.ShiftTerms.{logic_unary_term};
+
+use crate::counts::cntlzw;
+use crate::extensions::{extsb, extsh};
+use crate::logic::{and_words, eqv, nand, nor, or_words, xor_words};
+use crate::shifts::{slw, sraw, srw};
+use ppc_isa::{LogicImmediateOp, LogicOp, LogicUnaryOp};
+use ppc_parts::{Effect, GuestIn};
+use word_kit::{Alg, NoMemory};
+
+/// What logic with an immediate gives (Power ISA Book I, "Fixed-Point Logical Instructions"). `from.b` is the immediate as
+/// the row combines it. andi. and andis. record.
+pub fn logic_immediate_row<A: Alg>(
+    alg: &mut A,
+    op: LogicImmediateOp,
+    from: &GuestIn<A>,
+) -> Result<Effect<A>, NoMemory>
+    requires owned { IsOwned A.word_reach (A.extent alg.old) from.now }
+    ensures grows { A.extent alg.old ≤ A.extent alg.new }
+    ensures earlier { (v : ℕ → Bool) → A.admits alg.new v → A.admits alg.old v }
+    ensures opaque { A.opaque alg.new ≡ A.opaque alg.old }
+    ensures made { IfOk result (λ r. r ≡ (logic_immediate_term A.ops op (A.held alg.old) from.now).effect) }
+    ensures held { OnOk result (A.held alg.new ≡ (logic_immediate_term A.ops op (A.held alg.old) from.now).held) }
+    ensures fails { OnErr result (IsTrue A.takes_memory) }
+    ensures owned { IfOk result (λ r. EffectOwned A.word_reach A.flag_reach (A.extent alg.new) r) }
+    ensures means { IfOk result (λ r. (v : ℕ → Bool) → A.admits alg.new v → effect_of (λ w. A.word w v) (λ b. A.truth b v) r ≡ gives_a (logic_immediate_records op) (logic_immediate op (values_of (λ w. A.word w v) from.now).s (values_of (λ w. A.word w v) from.now).b) (values_of (λ w. A.word w v) from.now)) }
+{
+    match op {
+        LogicImmediateOp::Ori | LogicImmediateOp::Oris => or_words(
+            alg, false, from.s, from.b, from,
+        ),
+        LogicImmediateOp::Xori | LogicImmediateOp::Xoris => {
+            xor_words(alg, false, from.s, from.b, from)
+        }
+        LogicImmediateOp::Andi | LogicImmediateOp::Andis => {
+            and_words(alg, true, from.s, from.b, from)
+        }
+    }
+}
+
+/// What logic and shifts of rS by rB give (Power ISA Book I, "Fixed-Point Logical Instructions" and "Fixed-Point Shift
+/// Instructions"). A shift takes the low six bits of rB.
+pub fn logic_row<A: Alg>(
+    alg: &mut A,
+    op: LogicOp,
+    records: bool,
+    from: &GuestIn<A>,
+) -> Result<Effect<A>, NoMemory>
+    requires owned { IsOwned A.word_reach (A.extent alg.old) from.now }
+    ensures grows { A.extent alg.old ≤ A.extent alg.new }
+    ensures earlier { (v : ℕ → Bool) → A.admits alg.new v → A.admits alg.old v }
+    ensures opaque { A.opaque alg.new ≡ A.opaque alg.old }
+    ensures made { IfOk result (λ r. r ≡ (logic_term A.ops op records (A.held alg.old) from.now).effect) }
+    ensures held { OnOk result (A.held alg.new ≡ (logic_term A.ops op records (A.held alg.old) from.now).held) }
+    ensures fails { OnErr result (IsTrue A.takes_memory) }
+    ensures owned { IfOk result (λ r. EffectOwned A.word_reach A.flag_reach (A.extent alg.new) r) }
+    ensures means { IfOk result (λ r. (v : ℕ → Bool) → A.admits alg.new v → effect_of (λ w. A.word w v) (λ b. A.truth b v) r ≡ logic_row op records (values_of (λ w. A.word w v) from.now)) }
+{
+    let not_b = alg.not(from.b);
+    match op {
+        LogicOp::And => and_words(alg, records, from.s, from.b, from),
+        LogicOp::Or => or_words(alg, records, from.s, from.b, from),
+        LogicOp::Xor => xor_words(alg, records, from.s, from.b, from),
+        LogicOp::Nand => nand(alg, records, from),
+        LogicOp::Nor => nor(alg, records, from),
+        LogicOp::Eqv => eqv(alg, records, from),
+        LogicOp::Andc => and_words(alg, records, from.s, not_b, from),
+        LogicOp::Orc => or_words(alg, records, from.s, not_b, from),
+        LogicOp::Slw => slw(alg, records, from),
+        LogicOp::Srw => srw(alg, records, from),
+        LogicOp::Sraw => sraw(alg, records, from),
+    }
+}
+
+/// What cntlzw, extsb and extsh give (Power ISA Book I, "Fixed-Point Logical Instructions").
+pub fn logic_unary_row<A: Alg>(
+    alg: &mut A,
+    op: LogicUnaryOp,
+    records: bool,
+    from: &GuestIn<A>,
+) -> Result<Effect<A>, NoMemory>
+    requires owned { IsOwned A.word_reach (A.extent alg.old) from.now }
+    ensures grows { A.extent alg.old ≤ A.extent alg.new }
+    ensures earlier { (v : ℕ → Bool) → A.admits alg.new v → A.admits alg.old v }
+    ensures opaque { A.opaque alg.new ≡ A.opaque alg.old }
+    ensures made { IfOk result (λ r. r ≡ (logic_unary_term A.ops op records (A.held alg.old) from.now).effect) }
+    ensures held { OnOk result (A.held alg.new ≡ (logic_unary_term A.ops op records (A.held alg.old) from.now).held) }
+    ensures fails { OnErr result (IsTrue A.takes_memory) }
+    ensures owned { IfOk result (λ r. EffectOwned A.word_reach A.flag_reach (A.extent alg.new) r) }
+    ensures means { IfOk result (λ r. (v : ℕ → Bool) → A.admits alg.new v → effect_of (λ w. A.word w v) (λ b. A.truth b v) r ≡ logic_unary_row op records (values_of (λ w. A.word w v) from.now)) }
+{
+    match op {
+        LogicUnaryOp::Cntlzw => cntlzw(alg, records, from),
+        LogicUnaryOp::Extsb => extsb(alg, records, from),
+        LogicUnaryOp::Extsh => extsh(alg, records, from),
+    }
+}

@@ -1,0 +1,2 @@
+pub mod TrapTests
+pub mod FieldMasks

@@ -1,0 +1,4 @@
+pub mod AccessTerms
+pub mod LoadTerms
+pub mod StoreTerms
+pub mod Meant

@@ -1,0 +1,4 @@
+pub mod Meanings
+pub mod Made
+pub mod RecordingTerms
+pub mod OperandTerms

@@ -1,0 +1,3 @@
+pub mod SumTerms
+pub mod ProductTerms
+pub mod ArithmeticTerms
