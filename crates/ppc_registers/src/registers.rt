@@ -86,10 +86,13 @@ impl Registers {
         self.gprs[usize::from(g)] = value;
     }
 
-    pub fn put_lr(&mut self, value: u32)
-        ensures { (locs : ℕ → ℕ) → Holds self.old locs → Holds self.new (update locs 32 value) }
+    /// Puts LR, if that is asked.
+    pub fn put_lr(&mut self, asked: bool, value: u32)
+        ensures { (locs : ℕ → ℕ) → Holds self.old locs → Holds self.new (cond asked (update locs 32 value) locs) }
     {
-        self.lr = value;
+        if asked {
+            self.lr = value;
+        }
     }
 
     pub fn put_ctr(&mut self, value: u32)
