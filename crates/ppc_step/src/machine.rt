@@ -1,0 +1,126 @@
+//! The machine.
+
+ghost use Rattle.std.specs.Prelude.{◌≡◌, ◌<◌, ℕ, Option, IfOk, slice_index};
+ghost use Rattle.space.specs.declared.call.End.{End as Ending};
+ghost use Rattle.space.specs.declared.program.Program.{Program as OfProgram};
+ghost use Rattle.space.specs.Memory.{AreApart};
+ghost use Rattle.space.specs.Reports.{ListedCall, AnswerValue, answer_value};
+ghost use Rattle.runs.specs.Machine.{Outcome, Goes, Asks};
+ghost use Rattle.ppc_isa.specs.declared.instr.Instr.{Instr};
+ghost use Rattle.access.specs.Kept.{HasClosedCode};
+ghost use Rattle.machines.specs.Readings.{ReadsWords};
+ghost use Rattle.machines.specs.Guest.{Guest, guest_start};
+ghost use Rattle.ppc_step.specs.Steps.{Shows, Tells, IsTold, IsWaiting, phase_of, stepped};
+
+use crate::State;
+use access::first_memory;
+use ppc_registers::Registers;
+use space::{Answer, Call, End, Event, Program, Space};
+use std::alloc::Global;
+use std::marker::Model;
+use word_kit::NoMemory;
+
+/// How a machine stands.
+#[derive(Clone, Copy)]
+pub enum Phase {
+    Going,
+    /// A call waits for its answer.
+    Waiting(Call),
+    Over(End),
+}
+
+// How a machine stands behind a step.
+fn phase_after(event: Event) -> Phase
+    ensures { result ≡ phase_of event }
+{
+    match event {
+        Event::Went => Phase::Going,
+        Event::Asked(call) => Phase::Waiting(call),
+        Event::Ended(end) => Phase::Over(end),
+    }
+}
+
+/// A PowerPC machine that runs a program.
+#[derive(Drop)]
+pub struct Machine {
+    state: State,
+    phase: Phase,
+}
+
+impl Model for Machine {
+    ghost use Rattle.ppc_step.specs.Steps.{Seen, IsReady};
+
+    ghost Value = { Seen };
+
+    ghost view = { λ m. record { state = m.state; phase = m.phase } };
+
+    ghost invariant = { λ m. IsReady m.phase m.state };
+}
+
+impl Machine {
+    /// The machine before its first step. No two segments of the program share an address, and its code may not be
+    /// written, as in every program that a file gives.
+    pub fn boot(alloc: Global, program: &Program) -> Result<Machine, NoMemory>
+        requires apart { AreApart program.now.segments }
+        requires closed { HasClosedCode program.now }
+        ensures { IfOk result (λ machine. Shows program.now machine (Goes (guest_start program.now))) }
+    {
+        Ok(Machine {
+            state: State {
+                registers: Registers::at_start(),
+                next: program.entry,
+                memory: first_memory(alloc, program)?,
+            },
+            phase: Phase::Going,
+        })
+    }
+
+    /// One step, which takes no memory. No call waits for its answer. Behind an end, each step answers the same end and
+    /// changes nothing.
+    pub fn step(&mut self) -> Event
+        requires { IsWaiting self.old.phase → ⊥ }
+        ensures shows { (words : ℕ → Option Instr) → ReadsWords words → (p : OfProgram) (o : Outcome Guest) → Shows p self.old o → Shows p self.new (stepped words p o) }
+        ensures tells { (words : ℕ → Option Instr) → ReadsWords words → (p : OfProgram) (o : Outcome Guest) → Shows p self.old o → Tells result (stepped words p o) }
+        ensures told { IsTold result self.old self.new }
+        ensures over { (e : Ending) → self.old.phase ≡ Phase.Over e → (result ≡ Event.Ended e) × (self.new ≡ self.old) }
+    {
+        match self.phase {
+            Phase::Going => {
+                let event = self.state.step();
+                self.phase = phase_after(event);
+                event
+            }
+            Phase::Over(end) => Event::Ended(end),
+            Phase::Waiting(_) => unreachable!(),
+        }
+    }
+
+    /// Answers the call that waits, and takes no memory.
+    pub fn answer(&mut self, answer: Answer<'_>)
+        requires { IsWaiting self.old.phase }
+        ensures { (p : OfProgram) (call : ListedCall) (next : AnswerValue → Guest) → Shows p self.old (Asks call next) → Shows p self.new (Goes (next (answer_value answer.entry))) }
+    {
+        match self.phase {
+            Phase::Waiting(call) => {
+                self.state.resume(&call, answer);
+                self.phase = Phase::Going;
+            }
+            Phase::Going | Phase::Over(_) => unreachable!(),
+        }
+    }
+
+    /// The memory as it stands.
+    pub fn space(&self) -> &Space
+        ensures { result.now ≡ self.now.state.memory }
+    {
+        &self.state.memory
+    }
+
+    /// The value of GPR `g`.
+    pub fn gpr(&self, g: u8) -> u32
+        requires { g < 32 }
+        ensures { result ≡ slice_index self.now.state.registers.gprs g }
+    {
+        self.state.registers.gpr(g)
+    }
+}
