@@ -19,6 +19,15 @@ pub fn first_memory(alloc: Global, program: &Program) -> Result<Space, NoMemory>
     Space::of(alloc, program)
 }
 
+/// The same, in the program's own bytes. Takes no memory.
+pub fn own_memory(program: Program) -> Space
+    requires apart { AreApart program.segments }
+    requires closed { HasClosedCode program }
+    ensures { Keeps program (first_bytes program.segments) result }
+{
+    Space::owning(program)
+}
+
 /// Whether each of `count` addresses from `at` on lies in a segment, and in one that may be written
 /// if that is asked. Behind the last address they go on at 0.
 pub fn holds(space: &Space, at: u32, count: u32, writable: bool) -> bool

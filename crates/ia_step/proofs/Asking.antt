@@ -12,7 +12,8 @@ use Rattle.machines.specs.Host.{Host, system_call}
 use Rattle.ia_step.specs.declared.parts.Parts.{Parts}
 use Rattle.ia_step.specs.declared.state.State.{State}
 use Rattle.ia_step.specs.Shown.{IsCore, IsState, with_reg}
-use Rattle.ia_step.specs.Calls.{is_buffer, asks_for}
+use Rattle.machine_calls.specs.Calls.{is_buffer}
+use Rattle.ia_step.specs.Calls.{asks_for}
 use Rattle.ia_step.specs.Steps.{Leads}
 use Rattle.ia_step.proofs.Resuming.{reg_is}
 

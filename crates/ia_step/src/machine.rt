@@ -7,28 +7,23 @@ ghost use Rattle.space.specs.Memory.{AreApart};
 ghost use Rattle.space.specs.Reports.{ListedCall, AnswerValue, answer_value};
 ghost use Rattle.runs.specs.Machine.{Outcome, Goes, Asks};
 ghost use Rattle.ia_codec.specs.Spelling.{IsReg};
-ghost use Rattle.access.specs.Kept.{HasClosedCode};
+ghost use Rattle.access.specs.Kept.{HasClosedCode, Keeps};
+ghost use Rattle.machines.specs.Memory.{first_bytes};
 ghost use Rattle.machines.specs.Readings.{Fetched, ReadsOps};
-ghost use Rattle.machines.specs.Host.{Host, host_start};
+ghost use Rattle.machines.specs.Host.{Host, host_machine, host_start};
 ghost use Rattle.ia_step.specs.Values.{choice_of};
-ghost use Rattle.ia_step.specs.Steps.{Shows, Tells, IsTold, IsWaiting, memory_of, stepped};
+ghost use Rattle.machine_calls.specs.Phases.{IsWaiting, Tells, stepped};
+ghost use Rattle.ia_step.specs.Steps.{Shows, IsTold, memory_of};
 
 use crate::choices::{Choice, Choices};
 use crate::parts::{Flags, Parts};
 use crate::state::State;
-use access::first_memory;
-use space::{Answer, Call, End, Event, Program, Space};
+use access::{first_memory, own_memory};
+use machine_calls::{Phase, phase_after};
+use space::{Answer, Event, Program, Space};
 use std::alloc::Global;
 use std::marker::Model;
 use word_kit::NoMemory;
-
-/// How a machine stands.
-#[derive(Clone, Copy)]
-enum Phase {
-    Going,
-    Waiting(Call),
-    Over(End),
-}
 
 /// An IA-32 machine that runs a program.
 #[derive(Drop)]
@@ -38,25 +33,22 @@ pub struct Machine {
 }
 
 impl Model for Machine {
-    ghost use Rattle.ia_step.specs.Steps.{Seen, IsReady};
+    ghost use Rattle.machine_calls.specs.Phases.{IsReady};
+    ghost use Rattle.ia_step.specs.Steps.{Seen};
 
     ghost Value = { Seen };
 
     ghost view = { λ m. record { state = m.state; phase = m.phase } };
 
-    ghost invariant = { λ m. IsReady m.phase m.state };
+    ghost invariant = { λ m. IsReady m.phase m.state.parts.space };
 }
 
 impl Machine {
-    /// The machine before its first step. Choices 0 to 7 are the registers by number, the flags of choice 8 the flags,
-    /// and choice 9 + k serves step k. Past the list's end each is 0. No two segments share an address, and the code may not
-    /// be written. NoMemory comes where there is none for the bytes of the segments.
-    pub fn boot(alloc: Global, program: &Program, choices: Vec<Choice>) -> Result<Machine, NoMemory>
-        requires apart { AreApart program.now.segments }
-        requires closed { HasClosedCode program.now }
-        ensures { IfOk result (λ machine. Shows program.now machine (Goes (host_start program.now (map choice_of choices.items)))) }
+    // The machine that starts with this memory, at this address.
+    fn at_start(space: Space, entry: u32, choices: Vec<Choice>) -> Machine
+        ensures { (p : OfProgram) → Keeps p (first_bytes p.segments) space → p.entry ≡ entry
+            → Shows p result (Goes (host_start p (map choice_of choices.items))) }
     {
-        let space = first_memory(alloc, program)?;
         let mut choices = Choices::from_start(choices);
         let regs = [
             choices.next_word(),
@@ -70,14 +62,36 @@ impl Machine {
         ];
         let flags = choices.first().flags();
         choices.advance();
-        Ok(Machine {
+        Machine {
             state: State {
                 parts: Parts { regs, flags, space },
-                eip: program.entry,
+                eip: entry,
                 choices,
             },
             phase: Phase::Going,
-        })
+        }
+    }
+
+    /// The machine before its first step. Choices 0 to 7 are the registers by number, the flags of choice 8 the flags,
+    /// and choice 9 + k serves step k. Past the list's end each is 0. No two segments share an address, and the code may not
+    /// be written. NoMemory comes where there is none for the bytes of the segments.
+    pub fn boot(alloc: Global, program: &Program, choices: Vec<Choice>) -> Result<Machine, NoMemory>
+        requires apart { AreApart program.now.segments }
+        requires closed { HasClosedCode program.now }
+        ensures { IfOk result (λ machine. Shows program.now machine (Goes (host_start program.now (map choice_of choices.items)))) }
+    {
+        let space = first_memory(alloc, program)?;
+        Ok(Machine::at_start(space, program.entry, choices))
+    }
+
+    /// The same machine, whose memory is the program's own. Takes no memory.
+    pub fn start(program: Program, choices: Vec<Choice>) -> Machine
+        requires apart { AreApart program.segments }
+        requires closed { HasClosedCode program }
+        ensures { Shows program result (Goes (host_start program (map choice_of choices.items))) }
+    {
+        let entry = program.entry;
+        Machine::at_start(own_memory(program), entry, choices)
     }
 
     /// One step of the host machine (docs/machines.md): Went where it goes on, Asked where it makes a call, whose answer
@@ -85,35 +99,35 @@ impl Machine {
     /// nothing else, and every later step answers the same. A step takes no memory.
     pub fn step(&mut self) -> Event
         requires { IsWaiting self.old.phase → ⊥ }
-        ensures shows { (ops : List ℕ → Option Fetched) → ReadsOps ops → (p : OfProgram) (o : Outcome Host) → Shows p self.old o → Shows p self.new (stepped ops p o) }
-        ensures tells { (ops : List ℕ → Option Fetched) → ReadsOps ops → (p : OfProgram) (o : Outcome Host) → Shows p self.old o → Tells result (stepped ops p o) }
+        ensures shows { (ops : List ℕ → Option Fetched) → ReadsOps ops → (p : OfProgram) (o : Outcome Host) → Shows p self.old o → Shows p self.new (stepped (host_machine ops p) o) }
+        ensures tells { (ops : List ℕ → Option Fetched) → ReadsOps ops → (p : OfProgram) (o : Outcome Host) → Shows p self.old o → Tells result (stepped (host_machine ops p) o) }
         ensures told { IsTold result self.old self.new }
         ensures over { (e : Ending) → self.old.phase ≡ Phase.Over e → (result ≡ Event.Ended e) × (self.new ≡ self.old) }
     {
-        if let Phase::Over(end) = self.phase {
-            return Event::Ended(end);
+        match self.phase {
+            Phase::Going => {
+                let event = self.state.step();
+                self.phase = phase_after(event);
+                event
+            }
+            Phase::Over(end) => Event::Ended(end),
+            Phase::Waiting(_) => unreachable!(),
         }
-        let event = self.state.step();
-        match event {
-            Event::Went => {}
-            Event::Asked(call) => self.phase = Phase::Waiting(call),
-            Event::Ended(end) => self.phase = Phase::Over(end),
-        }
-        event
     }
 
     /// Answers the call that waits: eax gets the result, or 2^32 - e for an error e, and a read's bytes go to its buffer.
     /// What an answer gives that doesn't suit its call stands with `given`. It takes no memory.
     pub fn answer(&mut self, answer: Answer<'_>)
         requires { IsWaiting self.old.phase }
-        ensures { (p : OfProgram) (call : ListedCall) (next : AnswerValue → Host) → Shows p self.old (Asks call next) → Shows p self.new (Goes (next (answer_value answer.entry))) }
+        ensures going { self.new.phase ≡ Phase.Going }
+        ensures shows { (p : OfProgram) (call : ListedCall) (next : AnswerValue → Host) → Shows p self.old (Asks call next) → Shows p self.new (Goes (next (answer_value answer.entry))) }
     {
         match self.phase {
             Phase::Waiting(call) => {
-                self.state.resume(call, answer);
+                self.state.resume(&call, answer);
                 self.phase = Phase::Going;
             }
-            _ => unreachable!(),
+            Phase::Going | Phase::Over(_) => unreachable!(),
         }
     }
 

@@ -8,7 +8,8 @@ ghost use Rattle.machines.specs.Memory.{rights_of};
 ghost use Rattle.machines.specs.Readings.{Fetched, ReadsOps};
 ghost use Rattle.machines.specs.Host.{Host, place_of, reads, plain, jumps, jumps_to, divides, unary_acts, acts, host_machine, faults_on, choice_at};
 ghost use Rattle.ia_step.specs.Shown.{IsState};
-ghost use Rattle.ia_step.specs.Steps.{Fetches, IsEnd, IsDone, Leads};
+ghost use Rattle.machine_calls.specs.Phases.{IsEnd};
+ghost use Rattle.ia_step.specs.Steps.{Fetches, IsDone, Leads};
 
 use crate::choices::Choices;
 use crate::parts::Parts;

@@ -18,7 +18,10 @@ pub use instr::{
     StoreUpdateOp,
 };
 pub use laws::{one_instruction, one_reading, row_examples};
-pub use locs::{Locs, reads, writes};
+pub use locs::{
+    Locs, carry_out, immediate_carries, immediate_records, logic_carries, logic_immediate_records,
+    reads, unary_carry, writes,
+};
 pub use map::Map;
 pub use names::mnemonic;
 

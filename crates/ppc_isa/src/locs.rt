@@ -121,13 +121,15 @@ fn special_register(spr: u16) -> Locs
     }
 }
 
-fn immediate_records(op: ImmediateOp) -> bool
+/// Whether an instruction with an immediate operand records its result in CR field 0: addic. alone does.
+pub fn immediate_records(op: ImmediateOp) -> bool
     ensures { result ≡ immediate_records op }
 {
     matches!(op, ImmediateOp::AddicRecord)
 }
 
-fn immediate_carries(op: ImmediateOp) -> bool
+/// Whether an instruction with an immediate operand puts its carry into CA.
+pub fn immediate_carries(op: ImmediateOp) -> bool
     ensures { result ≡ immediate_carries op }
 {
     matches!(
@@ -147,7 +149,8 @@ fn immediate_operand(op: ImmediateOp, a: u8) -> Locs
     }
 }
 
-fn logic_immediate_records(op: LogicImmediateOp) -> bool
+/// Whether a logic instruction with an immediate operand records its result in CR field 0: andi. and andis. do.
+pub fn logic_immediate_records(op: LogicImmediateOp) -> bool
     ensures { result ≡ logic_immediate_records op }
 {
     matches!(op, LogicImmediateOp::Andi | LogicImmediateOp::Andis)
@@ -159,7 +162,8 @@ fn carry_in(op: ArithmeticOp) -> bool
     matches!(op, ArithmeticOp::Adde | ArithmeticOp::Subfe)
 }
 
-fn carry_out(op: ArithmeticOp) -> bool
+/// Whether an arithmetic instruction puts its carry into CA.
+pub fn carry_out(op: ArithmeticOp) -> bool
     ensures { result ≡ carry_out op }
 {
     matches!(
@@ -168,13 +172,15 @@ fn carry_out(op: ArithmeticOp) -> bool
     )
 }
 
-fn unary_carry(op: ArithmeticUnaryOp) -> bool
+/// Whether an arithmetic instruction of one operand reads CA and puts its carry there: all but neg do.
+pub fn unary_carry(op: ArithmeticUnaryOp) -> bool
     ensures { result ≡ unary_carry op }
 {
     !matches!(op, ArithmeticUnaryOp::Neg)
 }
 
-fn logic_carries(op: LogicOp) -> bool
+/// Whether a logic instruction puts a carry into CA: sraw alone does.
+pub fn logic_carries(op: LogicOp) -> bool
     ensures { result ≡ logic_carries op }
 {
     matches!(op, LogicOp::Sraw)

@@ -1,20 +1,20 @@
 -- Calls that the guest makes, and how it goes on behind them.
-use Rattle.std.proofs.Common.{◌≡◌, ℕ, zero, suc, ◌+◌, Bool, true, false, cond, List, [], length, take, min, refl, sym, ◌∙◌, ap, subst}
+use Rattle.std.proofs.Common.{◌≡◌, ℕ, true, false, List, [], Ok, Err, refl, sym, ◌∙◌, ap, subst}
 use Rattle.space.specs.declared.call.Call.{Call}
 use Rattle.space.specs.declared.call.CallKind.{CallKind}
-use Rattle.space.specs.declared.call.CallKind.TheVariants as kind
 use Rattle.space.specs.declared.call.End.TheVariants.{Outside}
 use Rattle.space.specs.declared.call.Event.TheVariants.{Asked, Ended}
 use Rattle.space.specs.declared.program.Program.{Program}
-use Rattle.space.specs.Reports.{ListedCall, AnswerValue, Got, Took, Error, Given, Gives, Fails, given, error_of}
-use Rattle.machines.specs.Memory.{block, put_block}
-use Rattle.machines.specs.Guest.{Guest, after_given, asks}
+use Rattle.space.specs.Memory.{Memory}
+use Rattle.space.specs.Reports.{ListedCall, AnswerValue, Given, Gives, Fails, given}
+use Rattle.machines.specs.Memory.{put_block}
+use Rattle.machines.specs.Guest.{Guest, after_given}
 use Rattle.ppc_step.specs.declared.state.State.{State}
-use Rattle.ppc_step.specs.declared.machine.Phase.{Phase}
-use Rattle.ppc_step.specs.declared.machine.Phase.TheVariants.{Waiting}
+use Rattle.machine_calls.specs.Calls.{listed_call, is_buffer, IsGiven}
 use Rattle.ppc_step.specs.Shown.{IsState}
-use Rattle.ppc_step.specs.Calls.{listed_as, listed_call, is_buffer, asks_for, IsAsking}
+use Rattle.ppc_step.specs.Calls.{asks_for, IsAsking}
 use Rattle.ppc_step.specs.Steps.{Leads}
+use Rattle.ppc_step.proofs.States.{with_memory}
 
 module _ (p : Program) (s : State) (g : Guest) (k : CallKind) (fd at count : ℕ) (st : IsState p s g)
     (fd_is : fd ≡ g.locs 3) (at_is : at ≡ g.locs 4) (count_is : count ≡ g.locs 5) where
@@ -32,36 +32,6 @@ pub resumed : (p : Program) (s new : State) (c : Call) (call : ListedCall) (next
 resumed p s new c call next k a x e is =
     subst (λ g. IsState p new g) (sym (k.goes_on a ∙ ap (λ call. after_given (given call a) k.g) k.lists ∙ ap (λ x. after_given x k.g) e)) is
 
-pub error_given : (k : CallKind) (fd at count : ℕ) (bytes : ℕ → ℕ) (code : ℕ) → given (listed_as k fd at count bytes) (Error code) ≡ Fails (error_of code)
-error_given kind.Read fd at count bytes code = refl
-error_given kind.Write fd at count bytes code = refl
-error_given kind.Close fd at count bytes code = refl
-
-block_length : (n a : ℕ) (bytes : ℕ → ℕ) → length (block n a bytes) ≡ n
-unfolding block
-block_length zero a bytes = refl
-block_length (suc n) a bytes = ap suc (block_length n (a + 1) bytes)
-
--- what a write gives
-pub write_given : (k : CallKind) (fd at count : ℕ) (bytes : ℕ → ℕ) (taken : ℕ) → k ≡ kind.Write → given (listed_as k fd at count bytes) (Took taken) ≡ Gives (min taken count) []
-write_given k fd at count bytes taken e =
-    ap (λ k. given (listed_as k fd at count bytes) (Took taken)) e ∙ ap (λ n. Gives (min taken n) []) (block_length count at bytes)
-
--- what a read gives
-pub read_given : (k : CallKind) (fd at count : ℕ) (bytes : ℕ → ℕ) (got : List ℕ) → k ≡ kind.Read → given (listed_as k fd at count bytes) (Got got) ≡ Gives (min (length got) count) (take (min (length got) count) got)
-read_given k fd at count bytes got e = ap (λ k. given (listed_as k fd at count bytes) (Got got)) e
-
--- an answer that isn't the call's gives 0
-pub got_nothing : (k : CallKind) (fd at count : ℕ) (bytes : ℕ → ℕ) (got : List ℕ) → (k ≡ kind.Read → ⊥) → given (listed_as k fd at count bytes) (Got got) ≡ Gives 0 []
-got_nothing kind.Read fd at count bytes got h = absurd (h refl)
-got_nothing kind.Write fd at count bytes got h = refl
-got_nothing kind.Close fd at count bytes got h = refl
-
-pub took_nothing : (k : CallKind) (fd at count : ℕ) (bytes : ℕ → ℕ) (taken : ℕ) → (k ≡ kind.Write → ⊥) → given (listed_as k fd at count bytes) (Took taken) ≡ Gives 0 []
-took_nothing kind.Read fd at count bytes taken h = refl
-took_nothing kind.Write fd at count bytes taken h = absurd (h refl)
-took_nothing kind.Close fd at count bytes taken h = refl
-
 pub put_nothing : (a : ℕ) (bytes : ℕ → ℕ) → bytes ≡ put_block a [] bytes
 unfolding put_block
 put_nothing a bytes = refl
@@ -75,10 +45,29 @@ read_put p new g v n at got is e at_is =
     let with_bytes = subst (λ (b : ℕ → ℕ). IsState p new (record (after_given (Gives v got) g) { bytes = b })) bytes is in
     subst (λ v. IsState p new (after_given (Gives v got) g)) e with_bytes
 
--- the call that waits is the one that was asked
-pub is_asking : (p : Program) (s : State) (phase : Phase) (c : Call) (call : ListedCall) (next : AnswerValue → Guest)
-    → ((x : Call) × (phase ≡ Waiting x) × IsAsking p s x call next) → phase ≡ Waiting c → IsAsking p s c call next
-is_asking p s phase c call next shown waits =
-    let first = shown.1 in
-    let same : shown.0 ≡ c = cc in
-    subst (λ x. IsAsking p s x call next) same shown.2
+-- what is given to the call that waits
+module _ (p : Program) (s new : State) (c : Call) (call : ListedCall) (next : AnswerValue → Guest) (k : IsAsking p s c call next) (a : AnswerValue) (m : Memory) where
+  -- a result, behind which the machine goes on
+  succeeded : (x : Given) (v : ℕ) → given (listed_call c k.g.bytes) a ≡ x → IsGiven p k.g.bytes c.at x (Ok v) m
+      → ((g : Guest) → IsState p (record s { memory = m }) g → IsState p new (after_given (Gives v []) g)) → IsState p new (next a)
+  succeeded (Gives n to_buffer) v e is onward =
+      resumed p s new c call next k a (Gives n to_buffer) e
+      (read_put p new k.g v n c.at to_buffer (onward _ (with_memory p s k.g m _ k.state is.1)) (let same = is.0 in cc) k.buffer)
+  succeeded (Fails n) v e is onward = let other = is.0 in absurd cc
+
+  -- an error
+  failed : (x : Given) (v : ℕ) → given (listed_call c k.g.bytes) a ≡ x → IsGiven p k.g.bytes c.at x (Err v) m
+      → ((g : Guest) → IsState p (record s { memory = m }) g → IsState p new (after_given (Fails v) g)) → IsState p new (next a)
+  failed (Gives n to_buffer) v e is onward = let other = is.0 in absurd cc
+  failed (Fails n) v e is onward =
+      let same : v ≡ n = (let h = is.0 in cc) in
+      resumed p s new c call next k a (Fails n) e
+      (subst (λ v. IsState p new (after_given (Fails v) k.g)) same (onward k.g (with_memory p s k.g m k.g.bytes k.state is.1)))
+
+  pub given_result : (v : ℕ) → IsGiven p k.g.bytes c.at (given (listed_call c k.g.bytes) a) (Ok v) m
+      → ((g : Guest) → IsState p (record s { memory = m }) g → IsState p new (after_given (Gives v []) g)) → IsState p new (next a)
+  given_result v is onward = succeeded (given (listed_call c k.g.bytes) a) v refl is onward
+
+  pub given_error : (v : ℕ) → IsGiven p k.g.bytes c.at (given (listed_call c k.g.bytes) a) (Err v) m
+      → ((g : Guest) → IsState p (record s { memory = m }) g → IsState p new (after_given (Fails v) g)) → IsState p new (next a)
+  given_error v is onward = failed (given (listed_call c k.g.bytes) a) v refl is onward

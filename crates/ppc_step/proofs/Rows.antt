@@ -1,5 +1,5 @@
 -- What a row gives doesn't depend on what is loaded, but for the loads of one number, and theirs in rD alone.
-use Rattle.std.proofs.Common.{◌≡◌, ℕ, ◌≤◌, Bool, true, false, Option, Some, None, refl, sym, ◌∙◌, ap, arith}
+use Rattle.std.proofs.Common.{◌≡◌, ℕ, ◌≤◌, Bool, true, false, Some, None, refl, sym, ◌∙◌, ap, arith}
 use Rattle.ppc_isa.specs.declared.instr.Instr.{Instr}
 use Rattle.ppc_isa.specs.declared.instr.Instr.TheVariants.{Immediate, LogicImmediate, Load, Store, LoadUpdate, StoreUpdate, Multiple, TrapImmediate, CompareImmediate, Rotate, Branch, BranchConditional, SystemCall, Arithmetic, ArithmeticUnary, Logic, ShiftImmediate, LogicUnary, Compare, Trap, MoveFromCr, MoveToCr, MoveFromSpr, MoveToSpr, Sync, LoadIndexed, StoreIndexed, LoadIndexedUpdate, StoreIndexedUpdate, MoveCrField, CrLogic, Isync, BranchRegister}
 use Rattle.ppc_isa.specs.declared.instr.ImmediateOp.TheVariants.{Addi, Addis, Addic, AddicRecord, Subfic, Mulli}
@@ -19,7 +19,7 @@ use Rattle.ppc_isa.specs.declared.instr.LoadIndexedOp.TheVariants.{Lwzx, Lbzx, L
 use Rattle.ppc_isa.specs.declared.instr.StoreIndexedOp.TheVariants.{Stwx, Stbx, Sthx, Stwbrx, Sthbrx}
 use Rattle.ppc_isa.specs.declared.instr.LoadIndexedUpdateOp.TheVariants.{Lwzux, Lbzux, Lhzux, Lhaux}
 use Rattle.ppc_isa.specs.declared.instr.StoreIndexedUpdateOp.TheVariants.{Stwux, Stbux, Sthux}
-use Rattle.ppc_isa.specs.Effect.{GuestValues, Effect, Access, LoadAccess}
+use Rattle.ppc_isa.specs.Effect.{GuestValues, Effect, LoadAccess}
 use Rattle.ppc_isa.specs.Rows.{guest_row}
 use Rattle.machines.specs.Guest.{Guest, values_of, loaded_in, effect_of}
 use Rattle.std.specs.Prelude.{if◌then◌else◌}

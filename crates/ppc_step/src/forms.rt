@@ -3,7 +3,10 @@
 ghost use Rattle.std.specs.Prelude.{◌≡◌, false};
 ghost use Rattle.ppc_isa.specs.Locations.{immediate_carries, immediate_records, logic_immediate_records, carry_out, unary_carry, logic_carries};
 
-use ppc_isa::{ArithmeticOp, ArithmeticUnaryOp, ImmediateOp, LogicImmediateOp, LogicOp};
+use ppc_isa::{
+    ArithmeticOp, ArithmeticUnaryOp, ImmediateOp, LogicImmediateOp, LogicOp, carry_out,
+    immediate_carries, immediate_records, logic_carries, logic_immediate_records, unary_carry,
+};
 
 #[derive(Clone, Copy)]
 pub(crate) struct Form {
@@ -21,11 +24,8 @@ pub(crate) fn immediate_form(op: ImmediateOp) -> Form
     ensures { result ≡ record { carries = immediate_carries op; records = immediate_records op } }
 {
     Form {
-        carries: matches!(
-            op,
-            ImmediateOp::Addic | ImmediateOp::AddicRecord | ImmediateOp::Subfic
-        ),
-        records: matches!(op, ImmediateOp::AddicRecord),
+        carries: immediate_carries(op),
+        records: immediate_records(op),
     }
 }
 
@@ -34,25 +34,24 @@ pub(crate) fn logic_immediate_form(op: LogicImmediateOp) -> Form
 {
     Form {
         carries: false,
-        records: matches!(op, LogicImmediateOp::Andi | LogicImmediateOp::Andis),
+        records: logic_immediate_records(op),
     }
 }
 
 pub(crate) fn arithmetic_form(op: ArithmeticOp, records: bool) -> Form
     ensures { result ≡ record { carries = carry_out op; records = records } }
 {
-    let carries = matches!(
-        op,
-        ArithmeticOp::Addc | ArithmeticOp::Adde | ArithmeticOp::Subfc | ArithmeticOp::Subfe
-    );
-    Form { carries, records }
+    Form {
+        carries: carry_out(op),
+        records,
+    }
 }
 
 pub(crate) fn arithmetic_unary_form(op: ArithmeticUnaryOp, records: bool) -> Form
     ensures { result ≡ record { carries = unary_carry op; records = records } }
 {
     Form {
-        carries: !matches!(op, ArithmeticUnaryOp::Neg),
+        carries: unary_carry(op),
         records,
     }
 }
@@ -61,7 +60,7 @@ pub(crate) fn logic_form(op: LogicOp, records: bool) -> Form
     ensures { result ≡ record { carries = logic_carries op; records = records } }
 {
     Form {
-        carries: matches!(op, LogicOp::Sraw),
+        carries: logic_carries(op),
         records,
     }
 }

@@ -11,7 +11,7 @@ mod machine;
 mod results;
 mod state;
 
-pub use machine::{Machine, Phase};
+pub use machine::Machine;
 pub use state::State;
 
 #[cfg(test)]

@@ -9,36 +9,18 @@ ghost use Rattle.runs.specs.Machine.{Outcome, Goes, Asks};
 ghost use Rattle.ppc_isa.specs.declared.instr.Instr.{Instr};
 ghost use Rattle.access.specs.Kept.{HasClosedCode};
 ghost use Rattle.machines.specs.Readings.{ReadsWords};
-ghost use Rattle.machines.specs.Guest.{Guest, guest_start};
-ghost use Rattle.ppc_step.specs.Steps.{Shows, Tells, IsTold, IsWaiting, phase_of, stepped};
+ghost use Rattle.machines.specs.Guest.{Guest, guest_machine, guest_start};
+ghost use Rattle.machine_calls.specs.Phases.{IsWaiting, Tells, stepped};
+ghost use Rattle.ppc_step.specs.Steps.{Shows, IsTold};
 
 use crate::State;
-use access::first_memory;
+use access::{first_memory, own_memory};
+use machine_calls::{Phase, phase_after};
 use ppc_registers::Registers;
-use space::{Answer, Call, End, Event, Program, Space};
+use space::{Answer, Event, Program, Space};
 use std::alloc::Global;
 use std::marker::Model;
 use word_kit::NoMemory;
-
-/// How a machine stands.
-#[derive(Clone, Copy)]
-pub enum Phase {
-    Going,
-    /// A call waits for its answer.
-    Waiting(Call),
-    Over(End),
-}
-
-// How a machine stands behind a step.
-fn phase_after(event: Event) -> Phase
-    ensures { result ≡ phase_of event }
-{
-    match event {
-        Event::Went => Phase::Going,
-        Event::Asked(call) => Phase::Waiting(call),
-        Event::Ended(end) => Phase::Over(end),
-    }
-}
 
 /// A PowerPC machine that runs a program.
 #[derive(Drop)]
@@ -48,13 +30,14 @@ pub struct Machine {
 }
 
 impl Model for Machine {
-    ghost use Rattle.ppc_step.specs.Steps.{Seen, IsReady};
+    ghost use Rattle.machine_calls.specs.Phases.{IsReady};
+    ghost use Rattle.ppc_step.specs.Steps.{Seen};
 
     ghost Value = { Seen };
 
     ghost view = { λ m. record { state = m.state; phase = m.phase } };
 
-    ghost invariant = { λ m. IsReady m.phase m.state };
+    ghost invariant = { λ m. IsReady m.phase m.state.memory };
 }
 
 impl Machine {
@@ -75,12 +58,28 @@ impl Machine {
         })
     }
 
+    /// The same machine, whose memory is the program's own. Takes no memory.
+    pub fn start(program: Program) -> Machine
+        requires apart { AreApart program.segments }
+        requires closed { HasClosedCode program }
+        ensures { Shows program result (Goes (guest_start program)) }
+    {
+        Machine {
+            state: State {
+                registers: Registers::at_start(),
+                next: program.entry,
+                memory: own_memory(program),
+            },
+            phase: Phase::Going,
+        }
+    }
+
     /// One step, which takes no memory. No call waits for its answer. Behind an end, each step answers the same end and
     /// changes nothing.
     pub fn step(&mut self) -> Event
         requires { IsWaiting self.old.phase → ⊥ }
-        ensures shows { (words : ℕ → Option Instr) → ReadsWords words → (p : OfProgram) (o : Outcome Guest) → Shows p self.old o → Shows p self.new (stepped words p o) }
-        ensures tells { (words : ℕ → Option Instr) → ReadsWords words → (p : OfProgram) (o : Outcome Guest) → Shows p self.old o → Tells result (stepped words p o) }
+        ensures shows { (words : ℕ → Option Instr) → ReadsWords words → (p : OfProgram) (o : Outcome Guest) → Shows p self.old o → Shows p self.new (stepped (guest_machine words p) o) }
+        ensures tells { (words : ℕ → Option Instr) → ReadsWords words → (p : OfProgram) (o : Outcome Guest) → Shows p self.old o → Tells result (stepped (guest_machine words p) o) }
         ensures told { IsTold result self.old self.new }
         ensures over { (e : Ending) → self.old.phase ≡ Phase.Over e → (result ≡ Event.Ended e) × (self.new ≡ self.old) }
     {
@@ -98,7 +97,8 @@ impl Machine {
     /// Answers the call that waits, and takes no memory.
     pub fn answer(&mut self, answer: Answer<'_>)
         requires { IsWaiting self.old.phase }
-        ensures { (p : OfProgram) (call : ListedCall) (next : AnswerValue → Guest) → Shows p self.old (Asks call next) → Shows p self.new (Goes (next (answer_value answer.entry))) }
+        ensures going { self.new.phase ≡ Phase.Going }
+        ensures shows { (p : OfProgram) (call : ListedCall) (next : AnswerValue → Guest) → Shows p self.old (Asks call next) → Shows p self.new (Goes (next (answer_value answer.entry))) }
     {
         match self.phase {
             Phase::Waiting(call) => {

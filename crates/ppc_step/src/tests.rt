@@ -1,7 +1,7 @@
 ghost use Rattle.std.specs.Prelude.{IfOk};
 ghost use Rattle.space.specs.Memory.{AreApart};
 ghost use Rattle.access.specs.Kept.{HasClosedCode};
-ghost use Rattle.ppc_step.specs.Steps.{IsWaiting};
+ghost use Rattle.machine_calls.specs.Phases.{IsWaiting};
 
 use crate::Machine;
 use space::{Bytes, End, Event, Kind, Program, Segment, Segments};

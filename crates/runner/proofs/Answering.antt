@@ -1,8 +1,6 @@
 -- The answer to a call, by what came of moving its bytes.
-use Rattle.std.proofs.Common.{◌≡◌, ◌≤◌, ◌<◌, ◌+◌, ◌-◌, ◌^◌, ◌⊎◌, inl, inr, ℕ, Bool, true, false, cond, eqb, leb, min, List, [], ◌∷◌, ◌++◌, length, take, drop, Option, Some, None, refl, sym, ap, ◌∙◌, arith}
-use Rattle.std.proofs.lemmas.Grind.{common_steps}
+use Rattle.std.proofs.Common.{◌≡◌, ◌≤◌, ◌<◌, inl, inr, ℕ, Bool, true, false, leb, List, [], ◌∷◌, ◌++◌, length, take, drop, Option, Some, None, refl, sym, ap, ◌∙◌, arith}
 use Rattle.std.proofs.lemmas.List.{length-take-le}
-use Rattle.outside.specs.Causes.{Rose}
 use Rattle.space.specs.Memory.{Memory}
 use Rattle.space.specs.declared.call.Call.{Call}
 use Rattle.space.specs.declared.call.CallKind.{CallKind}
@@ -14,8 +12,8 @@ use Rattle.runner.specs.declared.transfers.Taken.TheVariants as taken
 use Rattle.runner.specs.Stepping.{Describes, StandAt}
 use Rattle.space.specs.Reports.{ListedCall, Read, Write, Close, AnswerValue, Got, Took, Error}
 use Rattle.runs.specs.Machine.{Outcome, Goes}
-use Rattle.runner.specs.Answers.{Stream, Input, Output, Errors, Bytes, Full, Faulted, Transfer, faults_on, stream_of, IsAnswered, other_answer}
-use Rattle.runner.specs.Attending.{Streams, Told, RoseBy, HasCounted, CallAnswered, HasTaken, HasTakeCause, ReadAnswered, WriteAnswered}
+use Rattle.runner.specs.Answers.{Input, Output, Errors, Bytes, Full, Faulted, faults_on, stream_of, other_answer}
+use Rattle.runner.specs.Attending.{Streams, Told, RoseBy, CallAnswered, HasTaken, HasTakeCause, ReadAnswered, WriteAnswered}
 
 pub none_rose : (n : ℕ) → RoseBy 0 n n
 none_rose n = grind arith

@@ -1,12 +1,11 @@
 -- Bytes of a memory that are put piece by piece.
-use Rattle.std.proofs.Common.{◌≡◌, ◌≤◌, ◌<◌, ◌+◌, ◌%◌, ◌^◌, ℕ, Bool, List, ◌++◌, length, take, drop, Option, Some, None, Result, Ok, Err, refl, sym, ap, ◌∙◌, arith, append_assoc}
+use Rattle.std.proofs.Common.{◌≡◌, ◌≤◌, ◌<◌, ◌+◌, ◌%◌, ◌^◌, ℕ, Bool, List, ◌++◌, length, take, drop, Option, Some, None, sym, ap, ◌∙◌, arith, append_assoc}
 use Rattle.std.proofs.Math.Seq.{take-add}
 use Rattle.std.proofs.lemmas.List.{get_or-take, get_or-drop, length-take-le, length-drop, take-take}
 use Rattle.std.proofs.lemmas.Grind.{same_number_lists}
-use Rattle.std.specs.Prelude.{EachIndex, slice_index, IsTrue}
 use Rattle.std.specs.Io.KnownBytes.{Appends}
-use Rattle.space.specs.Memory.{Memory, ArePermitted, byte_at, is_permitted}
-use Rattle.outside.specs.Streams.{AppendsPrefix, PutsAll}
+use Rattle.space.specs.Memory.{Memory, ArePermitted}
+use Rattle.outside.specs.Streams.{AppendsPrefix}
 use Rattle.runner.specs.Stepping.{StandAt}
 
 some_injective : {x y : ℕ} → Some x ≡ Some y → x ≡ y

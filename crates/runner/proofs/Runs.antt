@@ -1,5 +1,5 @@
 -- A run, step by step.
-use Rattle.std.proofs.Common.{◌≡◌, ◌≢◌, ◌≤◌, ◌+◌, ◌-◌, ◌^◌, ℕ, zero, suc, min, List, [], ◌∷◌, ◌++◌, length, Option, Some, None, refl, sym, ap, ◌∙◌, arith, add-one, append_assoc}
+use Rattle.std.proofs.Common.{◌≡◌, ◌≢◌, ◌+◌, ℕ, suc, List, [], ◌∷◌, ◌++◌, Option, Some, None, refl, sym, ap, ◌∙◌, arith, add-one, append_assoc}
 use Rattle.space.specs.Memory.{Memory}
 use Rattle.space.specs.declared.call.Call.{Call}
 use Rattle.space.specs.declared.call.Event.TheVariants.{Went, Asked, Ended}
@@ -9,7 +9,7 @@ use Rattle.runner.proofs.Answering.{none_rose}
 use Rattle.space.specs.declared.call.End.{End}
 use Rattle.space.specs.declared.call.End.TheVariants.{Running, Dry}
 use Rattle.space.specs.Reports.{ListedCall, AnswerValue}
-use Rattle.runs.specs.Machine.{Outcome, Goes, Asks, Ends, run}
+use Rattle.runs.specs.Machine.{Outcome, Goes, Asks, Ends}
 use Rattle.runner.specs.Answers.{Stream, Input, Output, Errors, Bytes, Transfer, faults_on, IsAnswered, AreAnswered, HasRun}
 use Rattle.runner.specs.Attending.{Streams, Told, RoseBy, HasCounted, Attended, CallAnswered, StepMade, IsOver, Steps}
 

@@ -1,7 +1,7 @@
 -- Bytes that are taken piece by piece.
-use Rattle.std.proofs.Common.{◌≡◌, ◌≤◌, ◌<◌, ◌+◌, ◌-◌, ℕ, List, [], ◌++◌, length, take, drop, Option, Some, None, refl, sym, ap, ◌∙◌, arith, append_assoc}
-use Rattle.std.proofs.Math.Seq.{take-add, drop-append_seam, take-append_seam, drop-drop}
-use Rattle.std.proofs.lemmas.List.{length-take-le, length-take, length-drop, length-append, take-take, take-append-drop, take-append-le, take_all}
+use Rattle.std.proofs.Common.{◌≡◌, ◌≤◌, ℕ, List, [], ◌++◌, length, take, drop, Option, Some, None, refl, sym, ap, ◌∙◌, arith, append_assoc}
+use Rattle.std.proofs.Math.Seq.{drop-append_seam, take-append_seam}
+use Rattle.std.proofs.lemmas.List.{length-take, length-drop, length-append, take-append-drop, take-append-le, take_all}
 use Rattle.std.specs.Io.KnownBytes.{Consumes, IsAtEnd, Keeps}
 use Rattle.runner.specs.Attending.{Takes, TakesPartly}
 

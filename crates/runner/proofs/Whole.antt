@@ -1,12 +1,11 @@
 -- There is one run in which every call moves all that it can.
-use Rattle.std.proofs.Common.{◌≡◌, ◌≤◌, ◌+◌, ◌-◌, ◌^◌, ℕ, zero, suc, Bool, true, false, ◌&&◌, min, List, [], ◌∷◌, ◌++◌, cond, Option, Some, None, refl, sym, ap, ◌∙◌, arith}
+use Rattle.std.proofs.Common.{◌≡◌, ℕ, zero, suc, false, ◌&&◌, List, [], ◌∷◌, ◌++◌, Option, Some, None, refl, sym, ap, ◌∙◌, arith}
 use Rattle.space.specs.declared.call.End.{End}
-use Rattle.space.specs.declared.call.End.TheVariants.{Running}
-use Rattle.space.specs.Reports.{ListedCall, AnswerValue, Report, listed, ended}
+use Rattle.space.specs.Reports.{ListedCall, AnswerValue}
 use Rattle.word_kit.specs.Words.{one_if}
 use Rattle.outside.specs.Causes.{Rose}
 use Rattle.runs.specs.Machine.{Outcome, Goes, Asks, Ends, run, reported}
-use Rattle.runner.specs.Answers.{Stream, Input, Output, Errors, Bytes, Extent, Full, Faulted, Transfer, faults_on, is_same, is_faulted, IsAnswered, IsAnsweredOn, IsTransferred, AreAnswered, AreWhole, HasRun, HasWholeRun, stream_of}
+use Rattle.runner.specs.Answers.{Stream, Input, Output, Errors, Bytes, Extent, Full, Faulted, Transfer, faults_on, is_same, is_faulted, IsAnswered, IsAnsweredOn, IsTransferred, AreAnswered, AreWhole, HasWholeRun, stream_of}
 use Rattle.runner.proofs.Runs.{add_faults}
 use Rattle.runner.specs.Attending.{Streams, RoseBy, HasCounted}
 

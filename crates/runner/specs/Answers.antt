@@ -2,7 +2,7 @@
 -- the output or the errors, and every other call by a number alone. This project's own.
 use Rattle.std.specs.Prelude.{◌≡◌, ◌≤◌, ◌&&◌, ⊤, ℕ, Bool, true, false, cond, eqb, leb, List, [], ◌∷◌, ◌++◌, length, take, drop, count_by, Option, None, Some}
 use Rattle.space.specs.declared.call.End.{End}
-use Rattle.space.specs.Reports.{ListedCall, Read, Write, Close, AnswerValue, Got, Took, Error, Report}
+use Rattle.space.specs.Reports.{ListedCall, Read, Write, Close, AnswerValue, Got, Took, Error}
 use Rattle.runs.specs.Machine.{Outcome, run}
 
 -- the streams on which calls move bytes

@@ -6,7 +6,7 @@ use Rattle.runs.specs.Machine.{Outcome, Goes, Ends}
 use Rattle.outside.specs.Causes.{Rose}
 use Rattle.runner.specs.declared.transfers.Taken.{Taken}
 use Rattle.runner.specs.declared.transfers.Taken.TheVariants as taken
-use Rattle.runner.specs.Answers.{Stream, Input, Output, Errors, Bytes, Transfer, faults_on, IsAnswered, HasRun}
+use Rattle.runner.specs.Answers.{Input, Output, Errors, Bytes, Transfer, faults_on, IsAnswered, HasRun}
 
 -- the streams by what they tell of themselves: what is left or was put, and how often each has failed
 pub record Streams : Type 0 where

@@ -1,3 +1,5 @@
 pub mod Answers
 pub mod Stepping
 pub mod Attending
+pub mod Guests
+pub mod Hosts

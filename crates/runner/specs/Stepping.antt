@@ -1,21 +1,13 @@
 -- What the steps of a machine tell of its run.
-use Rattle.std.specs.Prelude.{◌≡◌, ◌≢◌, ◌%◌, ◌^◌, ◌+◌, ⊤, ℕ, Bool, true, false, List, length, slice_index, EachIndex, Some}
+use Rattle.std.specs.Prelude.{◌≡◌, ◌%◌, ◌^◌, ◌+◌, ⊤, ℕ, Bool, true, false, List, length, slice_index, EachIndex, Some}
 use Rattle.space.specs.Memory.{Memory, ArePermitted, byte_at}
 use Rattle.space.specs.Reports.{ListedCall, Read, Write, Close, AnswerValue}
 use Rattle.space.specs.declared.call.Call.{Call}
-use Rattle.space.specs.declared.call.CallKind.{CallKind}
 use Rattle.space.specs.declared.call.CallKind.TheVariants as kind
-use Rattle.space.specs.declared.call.End.{End}
-use Rattle.space.specs.declared.call.End.TheVariants.{Running, Dry}
 use Rattle.space.specs.declared.call.Event.{Event}
 use Rattle.space.specs.declared.call.Event.TheVariants.{Went, Asked, Ended}
 use Rattle.runs.specs.Machine.{Outcome, Goes, Asks, Ends}
-
--- where a run stands behind a step: a call stays open until it is answered, and an end stays
-abbrev pub stepped : {S : Type 0} → (S → Outcome S) → Outcome S → Outcome S
-stepped step (Goes s) = step s
-stepped step (Asks call next) = Asks call next
-stepped step (Ends e) = Ends e
+use Rattle.machine_calls.specs.Phases.{IsEnd}
 
 -- these bytes stand in memory from an address on, one behind another
 abbrev pub StandAt : Memory → ℕ → List ℕ → Type 0
@@ -43,14 +35,11 @@ Describes m c (Read fd count) = DescribesRead c fd count
 Describes m c (Write fd bytes) = DescribesWrite m c fd bytes
 Describes m c (Close fd) = DescribesClose c fd
 
-abbrev pub IsProper : End → Type 0
-IsProper e = (e ≢ Running) × (e ≢ Dry)
-
 -- what an event tells of where the run stands
 abbrev pub Tells : {S : Type 0} → Memory → Event → Outcome S → Type 0
 Tells m Went (Goes s) = ⊤
 Tells m (Asked c) (Asks call next) = Describes m c call
-Tells m (Ended end) (Ends e) = (end ≡ e) × IsProper e
+Tells m (Ended end) (Ends e) = (end ≡ e) × IsEnd e
 Tells m _ _ = ⊥
 
 abbrev pub is_asked : Event → Bool

@@ -2,6 +2,8 @@
 #![tactic(auto)]
 
 mod calls;
+mod guest;
+mod host;
 mod machine;
 mod running;
 mod transfers;

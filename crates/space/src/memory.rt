@@ -128,6 +128,18 @@ impl Space {
         })
     }
 
+    /// The memory of a program before its first step, in the program's own bytes. No two segments of
+    /// the program share an address. Takes no memory.
+    pub fn owning(program: Program) -> Space
+        requires { AreApart program.segments }
+        ensures { result ≡ record { segments = program.segments; code = program.code } }
+    {
+        Space {
+            code: program.code,
+            segments: program.segments.into_vec(),
+        }
+    }
+
     /// The place of the segment in which an address lies, of one that may be written if that is
     /// asked.
     fn place(&self, at: u32, writable: bool) -> Option<usize>

@@ -82,6 +82,14 @@ fn bytes_are_read_over_segments_side_by_side(rt: HostRuntime) -> Result<(), NoMe
 }
 
 #[test]
+fn a_program_gives_its_own_bytes(rt: HostRuntime) -> Result<(), NoMemory> {
+    let space = Space::owning(sample(rt.alloc())?);
+    assert!(rt; space.read(0x1001_0004) == Some(0x44));
+    assert!(rt; space.fetch(0x1000_0000) == Some(0x4400_0002));
+    Ok(())
+}
+
+#[test]
 fn only_bytes_that_may_be_written_are_changed(rt: HostRuntime) -> Result<(), NoMemory> {
     let mut space = Space::of(rt.alloc(), &sample(rt.alloc())?)?;
     assert!(rt; space.write(0x1001_0001, 0xaa));

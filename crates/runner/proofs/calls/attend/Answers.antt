@@ -1,6 +1,6 @@
 use Rattle.std.proofs.Common.{sym}
 use Rattle.runner.specs.Attending.{streams_by}
-use Rattle.runner.proofs.Answering.{ListedWrite, listed_read, listed_write}
+use Rattle.runner.proofs.Answering.{listed_read, listed_write}
 use Rattle.runner.proofs.calls.attend.Goals as goal
 
 pub returns-in_ok-attend_read-in-Read-clause-answered :

@@ -1,5 +1,4 @@
-use Rattle.std.proofs.Common.{arith, refl}
-use Rattle.std.proofs.lemmas.Grind.{common_steps}
+use Rattle.std.proofs.Common.{refl}
 use Rattle.space.specs.Reports.{Close}
 use Rattle.runner.proofs.Answering.{other_answered, within, beyond}
 use Rattle.runner.proofs.calls.attend_close.Goals as goal

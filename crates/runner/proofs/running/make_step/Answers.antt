@@ -1,7 +1,6 @@
 use Rattle.std.proofs.Common.{refl}
-use Rattle.runs.specs.Machine.{Goes, Asks}
+use Rattle.runs.specs.Machine.{Goes}
 use Rattle.runner.specs.Attending.{streams_by}
-use Rattle.runner.specs.Stepping.{stepped}
 use Rattle.runner.proofs.Runs.{went, asked, over, went_on, resumed, never_dry}
 use Rattle.runner.proofs.running.make_step.Goals as goal
 

@@ -1,5 +1,4 @@
 use Rattle.std.proofs.Common.{arith, ◌-◌, ◌+◌}
-use Rattle.std.proofs.lemmas.Grind.{common_steps}
 use Rattle.runner.proofs.Runs.{reached_start, reached_more, attended_over, attended_running, step_over, step_on}
 use Rattle.runner.proofs.running.run.Goals as goal
 

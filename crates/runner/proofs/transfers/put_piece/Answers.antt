@@ -1,5 +1,4 @@
-use Rattle.std.proofs.Common.{◌∙◌, sym, ap, arith}
-use Rattle.outside.specs.Streams.{PutsAll}
+use Rattle.std.proofs.Common.{sym, arith}
 use Rattle.runner.proofs.Pieces.{same_bytes}
 use Rattle.runner.proofs.transfers.put_piece.Goals as goal
 

@@ -1,6 +1,6 @@
-use Rattle.std.proofs.Common.{arith, ◌∙◌}
+use Rattle.std.proofs.Common.{arith}
 use Rattle.std.proofs.lemmas.Grind.{common_steps}
-use Rattle.runner.proofs.Taking.{HasSoFar, nothing_yet, more_from, taken_partly, taken_wholly, taken_to_end}
+use Rattle.runner.proofs.Taking.{nothing_yet, more_from, taken_partly, taken_wholly, taken_to_end}
 use Rattle.runner.proofs.transfers.take_up_to.Goals as goal
 use Rattle.runner.proofs.transfers.take_up_to.Goals.{else-loop-piece-test, then-loop-piece-test+in-Ok-eq0}
 

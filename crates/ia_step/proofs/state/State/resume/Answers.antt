@@ -1,13 +1,13 @@
-use Rattle.std.proofs.Common.{subst, sym}
 use Rattle.space.specs.Reports.{answer_value}
-use Rattle.ia_step.specs.Shown.{IsState}
+use Rattle.ia_step.proofs.Resuming.{given_result, given_error}
 use Rattle.ia_step.proofs.state.State.resume.Goals as goal
 
-pub returns-in-Got : goal.returns-in-Got
-returns-in-Got c = λ p listed next k. subst (λ a. IsState p c.got.new.self (next (answer_value a))) (sym c.in-Got.is) (c.got.ensures p listed next k)
+pub returns-in-Ok : goal.returns-in-Ok
+returns-in-Ok c = λ p listed next k.
+    given_result p c.args.self.now c.put_reg.new.self c.args.call.now listed next k (answer_value c.args.answer) c.give.new.memory c.in-Ok.value
+    (c.in-Ok.ensures.gives p k.h.core.bytes k.core.memory) (λ core is. c.put_reg.ensures p core is)
 
-pub returns-in-Took : goal.returns-in-Took
-returns-in-Took c = λ p listed next k. subst (λ a. IsState p c.took.new.self (next (answer_value a))) (sym c.in-Took.is) (c.took.ensures p listed next k)
-
-pub returns-in-Error : goal.returns-in-Error
-returns-in-Error c = λ p listed next k. subst (λ a. IsState p c.fail.new.self (next (answer_value a))) (sym c.in-Error.is) (c.fail.ensures p c.args.call listed next k)
+pub returns-in-Err : goal.returns-in-Err
+returns-in-Err c = λ p listed next k.
+    given_error p c.args.self.now c.put_reg-in-Err.new.self c.args.call.now listed next k (answer_value c.args.answer) c.give.new.memory c.in-Err.error c.negated.result
+    (c.in-Err.ensures.gives p k.h.core.bytes k.core.memory) c.negated.ensures (λ core is. c.put_reg-in-Err.ensures p core is)

@@ -1,4 +1,3 @@
-use Rattle.std.proofs.Common.{◌≡◌}
 use Rattle.ppc_step.proofs.States.{with_registers}
 use Rattle.ppc_step.proofs.state.State.fail.Goals as goal
 

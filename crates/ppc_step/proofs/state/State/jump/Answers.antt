@@ -1,4 +1,3 @@
-use Rattle.std.proofs.Common.{ap, ◌∙◌}
 use Rattle.ppc_step.proofs.States.{jumped}
 use Rattle.ppc_step.proofs.state.State.jump.Goals as goal
 

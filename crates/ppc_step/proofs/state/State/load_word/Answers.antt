@@ -1,6 +1,3 @@
-use Rattle.std.proofs.Common.{subst, sym}
-use Rattle.machines.specs.Memory.{update, load_big}
-use Rattle.ppc_step.specs.Shown.{IsState}
 use Rattle.ppc_step.proofs.States.{with_registers}
 use Rattle.ppc_step.proofs.Many.{loaded_word, some_loaded}
 use Rattle.ppc_step.proofs.state.State.load_word.Goals as goal

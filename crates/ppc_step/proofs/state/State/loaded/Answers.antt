@@ -1,4 +1,4 @@
-use Rattle.std.proofs.Common.{◌≡◌, ◌≤◌, ◌∙◌, ap, subst, sym}
+use Rattle.std.proofs.Common.{◌≤◌, ◌∙◌, ap, subst, sym}
 use Rattle.ppc_isa.specs.Effect.{Effect}
 use Rattle.ppc_isa.specs.Rows.{guest_row}
 use Rattle.ppc_registers.specs.Held.{numbers}

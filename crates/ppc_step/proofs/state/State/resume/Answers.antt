@@ -1,10 +1,13 @@
-use Rattle.std.proofs.Common.{subst, sym}
 use Rattle.space.specs.Reports.{answer_value}
-use Rattle.ppc_step.specs.Shown.{IsState}
+use Rattle.ppc_step.proofs.Asking.{given_result, given_error}
 use Rattle.ppc_step.proofs.state.State.resume.Goals as goal
 
-pub returns-in-Got : goal.returns-in-Got
-returns-in-Got c = λ p listed next k. subst (λ a. IsState p c.got.new.self (next (answer_value a))) (sym c.in-Got.is) (c.got.ensures p listed next k)
+pub returns-in-Ok : goal.returns-in-Ok
+returns-in-Ok c = λ p listed next k.
+    given_result p c.args.self.now c.succeed.new.self c.args.call.now listed next k (answer_value c.args.answer) c.give.new.memory c.in-Ok.value
+    (c.in-Ok.ensures.gives p k.g.bytes k.state.memory) (λ g is. c.succeed.ensures.state p g is)
 
-pub returns-in-Took : goal.returns-in-Took
-returns-in-Took c = λ p listed next k. subst (λ a. IsState p c.took.new.self (next (answer_value a))) (sym c.in-Took.is) (c.took.ensures p listed next k)
+pub returns-in-Err : goal.returns-in-Err
+returns-in-Err c = λ p listed next k.
+    given_error p c.args.self.now c.fail.new.self c.args.call.now listed next k (answer_value c.args.answer) c.give.new.memory c.in-Err.error
+    (c.in-Err.ensures.gives p k.g.bytes k.state.memory) (λ g is. c.fail.ensures.state p g is)

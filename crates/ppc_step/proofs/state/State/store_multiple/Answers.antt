@@ -1,4 +1,4 @@
-use Rattle.std.proofs.Common.{◌≡◌, ◌∙◌, sym, ap, subst, true, false, ◌-◌, ◌*◌}
+use Rattle.std.proofs.Common.{◌≡◌, ◌∙◌, sym, ap, subst, true, ◌-◌, ◌*◌}
 use Rattle.machines.specs.Memory.{each_byte, rights_of}
 use Rattle.machines.specs.Guest.{store_registers}
 use Rattle.ppc_isa.specs.Effect.{Effect}

@@ -1,4 +1,4 @@
-use Rattle.std.proofs.Common.{◌≡◌, ◌-◌, ℕ, ap, arith, subst}
+use Rattle.std.proofs.Common.{◌≡◌, ◌-◌, ℕ, arith, subst}
 use Rattle.machines.specs.Memory.{rights_of}
 use Rattle.machines.specs.Guest.{store_registers}
 use Rattle.ppc_step.specs.Shown.{IsState}
