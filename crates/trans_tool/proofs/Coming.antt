@@ -3,13 +3,15 @@ use Rattle.std.proofs.Common.{◌≢◌, ◌⊎◌, inl, inr, ℕ, List, length,
 use Rattle.std.proofs.Math.Seq.{take-length}
 use Rattle.std.specs.Io.KnownBytes.{Appends}
 use Rattle.outside.specs.Streams.{AppendsPrefix}
+use Rattle.runner.specs.Attending.{Streams}
 use Rattle.trans_tool.specs.Lines.{IsTold}
-use Rattle.trans_tool.specs.Seen.{Outside, Stream}
+use Rattle.trans_tool.specs.Seen.{Outside, Stream, InputStands, StreamStands, output_in}
 use Rattle.trans_tool.specs.Translate.{Ends}
 use Rattle.trans_tool.specs.Listing.{EndsListing}
 use Rattle.trans_tool.specs.Top.{Comes, Runs}
 use Rattle.trans_tool.specs.declared.cause.Cause.{Cause}
-use Rattle.trans_tool.specs.declared.cause.Cause.TheVariants.{Done, Usage, BadElf, TooLong, FileRead, FileWrite, OutFault, ErrFault, Memory, Unbuilt}
+use Rattle.trans_tool.specs.declared.cause.Cause.TheVariants.{Done, GuestExit, Usage, BadElf, TooLong, FileRead, FileWrite, OutFault, ErrFault, Memory, StepsSpent, Trap, Illegal, DivideFault, Unbuilt}
+use Rattle.trans_tool.specs.declared.cause.Cause.TheVariants as cause
 
 pub ends-memory : (o : Outside) (from to : List ℕ) (cause : Cause) → Ends o from to cause → Ends o from to Memory
 ends-memory o from to Done h = inr (h.others, h.source)
@@ -17,11 +19,17 @@ ends-memory o from to (FileRead file) h = inl h.2
 ends-memory o from to (Unbuilt address) h = inl h.1
 ends-memory o from to (FileWrite file) h = inr (h.2, h.3)
 ends-memory o from to Memory h = h
-ends-memory o from to Usage h = absurd h
 ends-memory o from to (BadElf rule offset) h = inl h.1
 ends-memory o from to (TooLong file) h = inl h.2
+ends-memory o from to Usage h = absurd h
 ends-memory o from to OutFault h = absurd h
 ends-memory o from to ErrFault h = absurd h
+ends-memory o from to (GuestExit number) h = absurd h
+ends-memory o from to StepsSpent h = absurd h
+ends-memory o from to Trap h = absurd h
+ends-memory o from to Illegal h = absurd h
+ends-memory o from to cause.Outside h = absurd h
+ends-memory o from to DivideFault h = absurd h
 
 whole-prefix : (old new : Option (List ℕ)) (text : List ℕ) → Appends old new text → AppendsPrefix old new text
 whole-prefix old new text put = (length text, omega arith, subst (λ v. Appends old new v) (sym (take-length text)) put)
@@ -37,17 +45,26 @@ listing-memory o out file Usage h = absurd h
 listing-memory o out file (FileWrite number) h = absurd h
 listing-memory o out file ErrFault h = absurd h
 listing-memory o out file (Unbuilt address) h = absurd h
+listing-memory o out file (GuestExit number) h = absurd h
+listing-memory o out file StepsSpent h = absurd h
+listing-memory o out file Trap h = absurd h
+listing-memory o out file Illegal h = absurd h
+listing-memory o out file cause.Outside h = absurd h
+listing-memory o out file DivideFault h = absurd h
 
-comes-memory : (words : List (List ℕ)) (o : Outside) (out : Stream) (cause : Cause) → cause ≢ Usage → Comes words o out cause → Comes words o out Memory
-comes-memory words o out cause apart (inl h) = absurd (apart h.usage)
-comes-memory words o out cause apart (inr (inl h)) =
-    inr (inl (record { from = h.from; to = h.to; spelled = h.spelled; ends = ends-memory o h.from h.to cause h.ends; output = h.output }))
-comes-memory words o out cause apart (inr (inr h)) =
-    inr (inr (record { file = h.file; spelled = h.spelled; ends = listing-memory o out h.file cause h.ends; files = h.files }))
+comes-memory : (words : List (List ℕ)) (o : Outside) (old new : Streams) (cause : Cause) → cause ≢ Usage → Comes words o old new cause → Comes words o old new Memory
+comes-memory words o old new cause apart (inl h) = absurd (apart h.usage)
+comes-memory words o old new cause apart (inr (inl h)) =
+    inr (inl (record { from = h.from; to = h.to; spelled = h.spelled; ends = ends-memory o h.from h.to cause h.ends; streams = h.streams }))
+comes-memory words o old new cause apart (inr (inr (inl h))) =
+    inr (inr (inl (record { file = h.file; spelled = h.spelled; ends = listing-memory o (output_in old new) h.file cause h.ends; files = h.files; input = h.input; errors = h.errors })))
+comes-memory words o old new cause apart (inr (inr (inr h))) =
+    inr (inr (inr (record { file = h.file; steps = h.steps; spelled = h.spelled; ends = tt; files = h.files })))
 
-pub runs-told : (words : List (List ℕ)) (o : Outside) (out errors : Stream) (cause told : Cause) → Comes words o out cause
-    → IsTold cause told errors.shown errors.shown' errors.faults errors.faults'
-    ⊎ ((cause ≢ Usage) × IsTold Memory told errors.shown errors.shown' errors.faults errors.faults') → Runs words o out errors told
-runs-told words o out errors cause told comes (inl line) = record { cause = cause; comes = comes; line = line }
-runs-told words o out errors cause told comes (inr h) =
-    record { cause = Memory; comes = comes-memory words o out cause h.0 comes; line = h.1 }
+-- the command had come to its cause with the streams as they then were
+pub runs-told : (words : List (List ℕ)) (o : Outside) (old ended new : Streams) (cause told : Cause) → InputStands ended new → StreamStands (output_in ended new) → Comes words o old ended cause
+    → IsTold cause told ended.errors new.errors ended.errors_faults new.errors_faults
+    ⊎ ((cause ≢ Usage) × IsTold Memory told ended.errors new.errors ended.errors_faults new.errors_faults) → Runs words o old new told
+runs-told words o old ended new cause told input output comes (inl line) = record { cause = cause; ended = ended; comes = comes; line = line; input = input; output = output }
+runs-told words o old ended new cause told input output comes (inr h) =
+    record { cause = Memory; ended = ended; comes = comes-memory words o old ended cause h.0 comes; line = h.1; input = input; output = output }

@@ -2,3 +2,6 @@ pub mod Lists
 pub mod Coming
 pub mod Answering
 pub mod Completing
+mod Ran
+mod Unread
+mod RunDue

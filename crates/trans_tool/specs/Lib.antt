@@ -4,5 +4,6 @@ pub mod Lines
 pub mod Seen
 pub mod Translate
 pub mod Listing
+pub mod Running
 pub mod Due
 pub mod Top

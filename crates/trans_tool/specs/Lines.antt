@@ -1,14 +1,15 @@
 -- The status number and the line of each cause, and what the sink of errors then shows.
-use Rattle.std.specs.Prelude.{◌≡◌, ◌⊎◌, ℕ, List, [], ◌++◌, codes, decimal, Option}
+use Rattle.std.specs.Prelude.{◌≡◌, ◌⊎◌, ℕ, List, [], ◌++◌, ◌%◌, codes, decimal, Option}
 use Rattle.std.specs.Io.KnownBytes.{Appends}
 use Rattle.outside.specs.Causes.{Rose}
 use Rattle.outside.specs.Streams.{AppendsPrefix}
 use Rattle.trans_tool.specs.declared.cause.Cause.{Cause}
-use Rattle.trans_tool.specs.declared.cause.Cause.TheVariants.{Done, Usage, BadElf, TooLong, FileRead, FileWrite, OutFault, ErrFault, Memory, Unbuilt}
+use Rattle.trans_tool.specs.declared.cause.Cause.TheVariants.{Done, GuestExit, Usage, BadElf, TooLong, FileRead, FileWrite, OutFault, ErrFault, Memory, StepsSpent, Trap, Illegal, Outside, DivideFault, Unbuilt}
 use Rattle.elf_load.specs.Rules.{number_of}
 
 abbrev pub code_of : Cause → ℕ
 code_of Done = 0
+code_of (GuestExit number) = number % 256
 code_of Usage = 64
 code_of (BadElf rule offset) = 65
 code_of (TooLong file) = 69
@@ -17,6 +18,11 @@ code_of (FileWrite file) = 71
 code_of OutFault = 72
 code_of ErrFault = 73
 code_of Memory = 74
+code_of StepsSpent = 75
+code_of Trap = 76
+code_of Illegal = 77
+code_of Outside = 78
+code_of DivideFault = 79
 code_of (Unbuilt address) = 80
 
 abbrev pub refusal_text : ℕ → ℕ → List ℕ
@@ -25,6 +31,7 @@ refusal_text number offset =
 
 abbrev pub line_of : Cause → List ℕ
 line_of Done = []
+line_of (GuestExit number) = []
 line_of Usage = codes "trans: bad words\n"
 line_of (BadElf rule offset) = refusal_text (number_of rule) offset
 line_of (TooLong file) = codes "trans: file " ++ decimal file ++ codes " is too long\n"
@@ -33,6 +40,11 @@ line_of (FileWrite file) = codes "trans: cannot write file " ++ decimal file ++ 
 line_of OutFault = codes "trans: output failed\n"
 line_of ErrFault = []
 line_of Memory = codes "trans: out of memory\n"
+line_of StepsSpent = codes "trans: steps spent\n"
+line_of Trap = codes "trans: trap\n"
+line_of Illegal = codes "trans: illegal instruction\n"
+line_of Outside = codes "trans: outside access\n"
+line_of DivideFault = codes "trans: divide fault\n"
 line_of (Unbuilt address) = codes "trans: not built at " ++ decimal address ++ codes "\n"
 
 -- the line of the cause was put whole, or a prefix of it and then the sink failed

@@ -16,7 +16,7 @@ use Rattle.outside.specs.Streams.{AppendsPrefix}
 use Rattle.trans_tool.specs.Whole.{IsLonger}
 use Rattle.trans_tool.specs.Seen.{Outside, Stream, StreamStands}
 use Rattle.trans_tool.specs.declared.cause.Cause.{Cause}
-use Rattle.trans_tool.specs.declared.cause.Cause.TheVariants.{Done, Usage, BadElf, TooLong, FileRead, FileWrite, OutFault, ErrFault, Memory, Unbuilt}
+use Rattle.trans_tool.specs.declared.cause.Cause.TheVariants.{Done, BadElf, TooLong, FileRead, OutFault, Memory}
 
 -- A file is for IA-32 exactly where its byte 5, which tells the order of its bytes, says so, and else for PowerPC,
 -- also where it has no such byte. This project's own.
@@ -52,17 +52,18 @@ pub record IsRefused (o : Outside) (file : List ℕ) (rule : ElfRefusal) (offset
   pub held : IsFile o file bytes
   pub fault : IsFirstFault (kind_of bytes) bytes rule offset
 
+-- Why FILE gave no program, beside what is said of the streams.
+abbrev pub EndsUnread : Outside → List ℕ → Type 0 → Cause → Type 0
+EndsUnread o file Streams (FileRead number) = (number ≡ 0) × (o.reads file < o.reads' file) × Streams
+EndsUnread o file Streams (TooLong number) = (number ≡ 0) × (IsTrue o.tells → IsLonger 0x10000000 (o.held file)) × Streams
+EndsUnread o file Streams (BadElf rule offset) = IsRefused o file rule offset × Streams
+EndsUnread o file Streams Memory = Streams
+EndsUnread o file Streams _ = ⊥
+
 -- What each cause of the command says. Where memory runs out a prefix of the listing may have been put.
 abbrev pub EndsListing : Outside → Stream → List ℕ → Cause → Type 0
 EndsListing o out file Done = (program : Program) × IsLoaded o file program × IsListed program out
 EndsListing o out file OutFault =
     ((program : Program) × IsLoaded o file program × IsListedPartly program out) × Rose out.faults out.faults'
-EndsListing o out file (FileRead number) = (number ≡ 0) × (o.reads file < o.reads' file) × StreamStands out
-EndsListing o out file (TooLong number) =
-    (number ≡ 0) × (IsTrue o.tells → IsLonger 0x10000000 (o.held file)) × StreamStands out
-EndsListing o out file (BadElf rule offset) = IsRefused o file rule offset × StreamStands out
 EndsListing o out file Memory = StreamStands out ⊎ ((program : Program) × IsLoaded o file program × IsListedPartly program out)
-EndsListing o out file Usage = ⊥
-EndsListing o out file (FileWrite number) = ⊥
-EndsListing o out file ErrFault = ⊥
-EndsListing o out file (Unbuilt address) = ⊥
+EndsListing o out file cause = EndsUnread o file (StreamStands out) cause

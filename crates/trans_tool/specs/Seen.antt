@@ -1,4 +1,5 @@
 -- The files and the sinks before a run and behind it, by what they tell of themselves.
+use Rattle.runner.specs.Attending.{Streams}
 use Rattle.std.specs.Prelude.{◌≡◌, ◌≢◌, Bool, IsTrue, ℕ, List, Option}
 
 -- the files before a run and behind it
@@ -47,7 +48,25 @@ heard_by shown faults sink sink' = record {
   faults' = faults sink';
 }
 
+-- the output of the streams at two moments, and the errors
+abbrev pub output_in : Streams → Streams → Stream
+output_in old new = record { shown = old.output; shown' = new.output; faults = old.output_faults; faults' = new.output_faults }
+
+abbrev pub errors_in : Streams → Streams → Stream
+errors_in old new = record { shown = old.errors; shown' = new.errors; faults = old.errors_faults; faults' = new.errors_faults }
+
 -- nothing was put to the sink, and it has not failed
 pub record StreamStands (s : Stream) : Type 0 where
   pub shown : s.shown' ≡ s.shown
   pub faults : s.faults' ≡ s.faults
+
+-- nothing was taken from the input, and it has not failed
+pub record InputStands (old new : Streams) : Type 0 where
+  pub left : new.left ≡ old.left
+  pub faults : new.input_faults ≡ old.input_faults
+
+-- no stream was touched
+pub record StreamsStand (old new : Streams) : Type 0 where
+  pub input : InputStands old new
+  pub output : StreamStands (output_in old new)
+  pub errors : StreamStands (errors_in old new)

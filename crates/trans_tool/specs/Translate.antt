@@ -16,7 +16,7 @@ use Rattle.trans_tool.specs.declared.translate.Refusal.{Refusal}
 use Rattle.trans_tool.specs.declared.translate.Refusal.TheVariants.{Elf}
 use Rattle.trans_tool.specs.declared.translate.Refusal.TheVariants as refusal
 use Rattle.trans_tool.specs.declared.cause.Cause.{Cause}
-use Rattle.trans_tool.specs.declared.cause.Cause.TheVariants.{Done, Usage, BadElf, TooLong, FileRead, FileWrite, OutFault, ErrFault, Memory, Unbuilt}
+use Rattle.trans_tool.specs.declared.cause.Cause.TheVariants.{Done, BadElf, TooLong, FileRead, FileWrite, Memory, Unbuilt}
 
 -- IN held these bytes, of which there are at most 16 MiB
 pub record IsInput (o : Outside) (from bytes : List ℕ) : Type 0 where
@@ -69,9 +69,7 @@ Ends o from to (BadElf rule offset) = IsRefused o from rule offset × FilesStand
 Ends o from to (Unbuilt address) = StopsAt o from address × FilesStand o
 Ends o from to (FileWrite file) = (file ≡ 1) × (o.replaces to < o.replaces' to) × OthersStand o to × IsTranslatable o from
 Ends o from to Memory = FilesStand o ⊎ (OthersStand o to × IsTranslatable o from)
-Ends o from to Usage = ⊥
-Ends o from to OutFault = ⊥
-Ends o from to ErrFault = ⊥
+Ends o from to _ = ⊥
 
 -- a file of these bytes was translated so
 pub record IsAnswer (bytes : List ℕ) (output : Output) : Type 0 where

@@ -1,6 +1,6 @@
 //! Why a run ended: its status number and its line on the standard error.
 
-ghost use Rattle.std.specs.Prelude.{◌≡◌, ◌≢◌, ◌⊎◌, IfOk, string_bytes};
+ghost use Rattle.std.specs.Prelude.{◌≡◌, ◌≢◌, ◌≤◌, ◌⊎◌, IfOk, string_bytes};
 ghost use Rattle.outside.specs.Causes.{Rose};
 ghost use Rattle.trans_tool.specs.Lines.{code_of, refusal_text, line_of, IsTold};
 
@@ -13,6 +13,8 @@ use std::alloc::{AllocError, Global};
 pub enum Cause {
     /// The command did what it says.
     Done,
+    /// The program that was run left with this number.
+    GuestExit(u32),
     /// The words spell no command.
     Usage,
     /// The file of this number is no program: the first rule that it breaks, and the offset of what breaks it.
@@ -29,6 +31,16 @@ pub enum Cause {
     ErrFault,
     /// There was no memory for the work.
     Memory,
+    /// The program that was run made all the steps that it was given, and goes on.
+    StepsSpent,
+    /// The program that was run met a trap.
+    Trap,
+    /// The program that was run met a word or bytes that are no instruction.
+    Illegal,
+    /// The program that was run reached outside its segments, or against their rights.
+    Outside,
+    /// The program that was run divided by zero, or the quotient was too long. On IA-32 alone.
+    DivideFault,
     /// Translation is not built for the word at this address, or, at 0, for a file of this form.
     Unbuilt(u32),
 }
@@ -48,6 +60,7 @@ impl Cause {
     {
         match self {
             Cause::Done => 0,
+            Cause::GuestExit(number) => (number % 256) as u8,
             Cause::Usage => 64,
             Cause::BadElf(_, _) => 65,
             Cause::TooLong(_) => 69,
@@ -56,6 +69,11 @@ impl Cause {
             Cause::OutFault => 72,
             Cause::ErrFault => 73,
             Cause::Memory => 74,
+            Cause::StepsSpent => 75,
+            Cause::Trap => 76,
+            Cause::Illegal => 77,
+            Cause::Outside => 78,
+            Cause::DivideFault => 79,
             Cause::Unbuilt(_) => 80,
         }
     }
@@ -64,7 +82,7 @@ impl Cause {
         ensures { IfOk result (λ s. string_bytes s ≡ line_of self) }
     {
         match self {
-            Cause::Done | Cause::ErrFault => Ok(String::new(alloc)),
+            Cause::Done | Cause::GuestExit(_) | Cause::ErrFault => Ok(String::new(alloc)),
             Cause::Usage => format!(in alloc; "trans: bad words\n"),
             Cause::BadElf(refusal, offset) => refusal_line(alloc, refusal.number(), offset),
             Cause::TooLong(file) => format!(in alloc; "trans: file {file} is too long\n"),
@@ -72,6 +90,11 @@ impl Cause {
             Cause::FileWrite(file) => format!(in alloc; "trans: cannot write file {file}\n"),
             Cause::OutFault => format!(in alloc; "trans: output failed\n"),
             Cause::Memory => format!(in alloc; "trans: out of memory\n"),
+            Cause::StepsSpent => format!(in alloc; "trans: steps spent\n"),
+            Cause::Trap => format!(in alloc; "trans: trap\n"),
+            Cause::Illegal => format!(in alloc; "trans: illegal instruction\n"),
+            Cause::Outside => format!(in alloc; "trans: outside access\n"),
+            Cause::DivideFault => format!(in alloc; "trans: divide fault\n"),
             Cause::Unbuilt(address) => format!(in alloc; "trans: not built at {address}\n"),
         }
     }
@@ -87,11 +110,12 @@ fn refusal_line(alloc: Global, number: u8, offset: u32) -> Result<String, AllocE
 /// line takes none; where the line cannot be put it is `ErrFault`.
 pub fn report<E: Sink>(alloc: Global, errors: &mut E, cause: Cause) -> Cause
     requires { cause ≢ Cause.ErrFault }
-    ensures { IsTold cause result (E.shown errors.old) (E.shown errors.new) (E.faults errors.old) (E.faults errors.new)
+    ensures later { E.faults errors.old ≤ E.faults errors.new }
+    ensures told { IsTold cause result (E.shown errors.old) (E.shown errors.new) (E.faults errors.old) (E.faults errors.new)
         ⊎ ((cause ≢ Cause.Usage) × IsTold Cause.Memory result (E.shown errors.old) (E.shown errors.new) (E.faults errors.old) (E.faults errors.new)) }
 {
     match cause {
-        Cause::Done => Cause::Done,
+        Cause::Done | Cause::GuestExit(_) => cause,
         Cause::Usage => say(errors, cause, b"trans: bad words\n"),
         Cause::Memory => say(errors, cause, b"trans: out of memory\n"),
         _ => match cause.line(alloc) {
@@ -103,7 +127,8 @@ pub fn report<E: Sink>(alloc: Global, errors: &mut E, cause: Cause) -> Cause
 
 fn say<E: Sink>(errors: &mut E, cause: Cause, line: &[u8]) -> Cause
     requires { line.now ≡ line_of cause }
-    ensures { IsTold cause result (E.shown errors.old) (E.shown errors.new) (E.faults errors.old) (E.faults errors.new) }
+    ensures later { E.faults errors.old ≤ E.faults errors.new }
+    ensures told { IsTold cause result (E.shown errors.old) (E.shown errors.new) (E.faults errors.old) (E.faults errors.new) }
 {
     match put_all(errors, line) {
         Ok(()) => cause,

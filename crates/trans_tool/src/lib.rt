@@ -4,6 +4,8 @@
 mod cause;
 mod entry;
 mod list;
+mod loading;
+mod run;
 mod translate;
 mod whole;
 mod words;

@@ -18,6 +18,7 @@ mod files;
 mod listings;
 mod programs;
 mod refusals;
+mod running;
 
 const TRANSLATE: &[&str] = &["translate", "in", "out"];
 

@@ -1,0 +1,47 @@
+-- A file that gave no program, and the streams, which stand.
+use Rattle.std.proofs.Common.{ℕ, List, inl}
+use Rattle.std.specs.Prelude.{⊤}
+use Rattle.runner.specs.Attending.{Streams}
+use Rattle.trans_tool.specs.Seen.{Outside, Stream, StreamStands, StreamsStand}
+use Rattle.trans_tool.specs.Listing.{EndsListing, EndsUnread}
+use Rattle.trans_tool.specs.Running.{EndsRun}
+use Rattle.trans_tool.specs.declared.cause.Cause.{Cause}
+use Rattle.trans_tool.specs.declared.cause.Cause.TheVariants.{Done, GuestExit, Usage, BadElf, TooLong, FileRead, FileWrite, OutFault, ErrFault, Memory, StepsSpent, Trap, Illegal, DivideFault, Unbuilt}
+use Rattle.trans_tool.specs.declared.cause.Cause.TheVariants as cause
+
+module _ (o : Outside) (file : List ℕ) where
+  pub listing_unread : (out : Stream) (c : Cause) → EndsUnread o file ⊤ c → StreamStands out → EndsListing o out file c
+  listing_unread out (FileRead number) h s = (h.0, h.1, s)
+  listing_unread out (TooLong number) h s = (h.0, h.1, s)
+  listing_unread out (BadElf rule offset) h s = (h.0, s)
+  listing_unread out Memory h s = inl s
+  listing_unread out Done h s = absurd h
+  listing_unread out Usage h s = absurd h
+  listing_unread out (FileWrite number) h s = absurd h
+  listing_unread out OutFault h s = absurd h
+  listing_unread out ErrFault h s = absurd h
+  listing_unread out (Unbuilt address) h s = absurd h
+  listing_unread out (GuestExit number) h s = absurd h
+  listing_unread out StepsSpent h s = absurd h
+  listing_unread out Trap h s = absurd h
+  listing_unread out Illegal h s = absurd h
+  listing_unread out cause.Outside h s = absurd h
+  listing_unread out DivideFault h s = absurd h
+
+  pub run_unread : (steps : ℕ) (old new : Streams) (c : Cause) → EndsUnread o file ⊤ c → StreamsStand old new → EndsRun o file steps old new c
+  run_unread steps old new (FileRead number) h s = (h.0, h.1, s)
+  run_unread steps old new (TooLong number) h s = (h.0, h.1, s)
+  run_unread steps old new (BadElf rule offset) h s = (h.0, s)
+  run_unread steps old new Memory h s = tt
+  run_unread steps old new Done h s = absurd h
+  run_unread steps old new Usage h s = absurd h
+  run_unread steps old new (FileWrite number) h s = absurd h
+  run_unread steps old new OutFault h s = absurd h
+  run_unread steps old new ErrFault h s = absurd h
+  run_unread steps old new (Unbuilt address) h s = absurd h
+  run_unread steps old new (GuestExit number) h s = absurd h
+  run_unread steps old new StepsSpent h s = absurd h
+  run_unread steps old new Trap h s = absurd h
+  run_unread steps old new Illegal h s = absurd h
+  run_unread steps old new cause.Outside h s = absurd h
+  run_unread steps old new DivideFault h s = absurd h
