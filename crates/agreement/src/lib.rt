@@ -6,7 +6,7 @@ ghost use Rattle.agreement.specs.Written.{CarryingAgrees};
 use laid_code::{blocks_stand, hold_stands};
 use machines::agrees_if_narrowly;
 use simulation::agrees;
-use upkeep::{all_live_is_enough, has_home, host_keeps_unwritten, segments_are_apart, starts};
+use upkeep::{all_live_is_enough, has_home, host_keeps_unwritten, loaded_has_bytes, starts};
 
 /// A file that carries a program's translation agrees with the program: for every list of answers to
 /// its calls, every choice of the processor and every n, until the program's first access outside its
@@ -21,6 +21,6 @@ pub fn carrying_agrees()
     has_home();
     host_keeps_unwritten();
     all_live_is_enough();
-    segments_are_apart();
+    loaded_has_bytes();
     starts();
 }

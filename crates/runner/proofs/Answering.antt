@@ -5,7 +5,7 @@ use Rattle.space.specs.Memory.{Memory}
 use Rattle.space.specs.declared.call.Call.{Call}
 use Rattle.space.specs.declared.call.CallKind.{CallKind}
 use Rattle.space.specs.declared.call.CallKind.TheVariants as kind
-use Rattle.std.specs.Prelude.{Vec}
+use Rattle.std.specs.Prelude.{Vec, Result, Ok, Err, OnErr}
 use Rattle.std.specs.Global.{Global}
 use Rattle.runner.specs.declared.transfers.Taken.{Taken}
 use Rattle.runner.specs.declared.transfers.Taken.TheVariants as taken
@@ -13,7 +13,12 @@ use Rattle.runner.specs.Stepping.{Describes, StandAt}
 use Rattle.space.specs.Reports.{ListedCall, Read, Write, Close, AnswerValue, Got, Took, Error}
 use Rattle.runs.specs.Machine.{Outcome, Goes}
 use Rattle.runner.specs.Answers.{Input, Output, Errors, Bytes, Full, Faulted, faults_on, stream_of, other_answer}
-use Rattle.runner.specs.Attending.{Streams, Told, RoseBy, CallAnswered, HasTaken, HasTakeCause, ReadAnswered, WriteAnswered}
+use Rattle.runner.specs.Attending.{Streams, Told, RoseBy, CallAnswered, TakenInVain, TakesInVain, HasTaken, HasTakeCause, ReadAnswered, WriteAnswered}
+
+-- what holds in any case
+pub if_err : {T E : Type 0} → (r : Result T E) (P : Type 0) → P → OnErr r P
+if_err (Ok v) P p = tt
+if_err (Err e) P p = p
 
 pub none_rose : (n : ℕ) → RoseBy 0 n n
 none_rose n = grind arith
@@ -33,6 +38,15 @@ items_in taken.Failed = []
 
 failed_is_none : (v : Vec ℕ Global) → taken.Failed ≡ taken.Bytes v → ⊥
 failed_is_none v e = grind arith
+
+pub taken_in_vain : (s : Streams) (b : Bytes) → Told s b → (now : Option (List ℕ)) (faults : ℕ) → TakesInVain b.left now s.input_faults faults
+    → TakenInVain s (record s { left = now; input_faults = faults }) b
+unfolding faults_on
+taken_in_vain s b told now faults t = record {
+  taken = t.taken;
+  told = record { left = t.left_is; output = told.output; errors = told.errors };
+  counted = record { input = later_rose _ _ t.later; output = none_rose _; errors = none_rose _ };
+}
 
 module _ {S : Type 0} (Shows : Outcome S → Type 0) (next : AnswerValue → S) (s : Streams) (b : Bytes) (told : Told s b) where
   pub read_answered : (count : ℕ) (now : Option (List ℕ)) (faults : ℕ) → ReadAnswered Shows next count b.left now s.input_faults faults

@@ -1,5 +1,5 @@
 -- A run, step by step.
-use Rattle.std.proofs.Common.{◌≡◌, ◌≢◌, ◌+◌, ℕ, suc, List, [], ◌∷◌, ◌++◌, Option, Some, None, refl, sym, ap, ◌∙◌, arith, add-one, append_assoc}
+use Rattle.std.proofs.Common.{◌≡◌, ◌≢◌, ◌≤◌, ◌+◌, ℕ, suc, List, [], ◌∷◌, ◌++◌, Option, Some, None, refl, sym, ap, ◌∙◌, subst, arith, add-one, add-zero, append_assoc}
 use Rattle.space.specs.Memory.{Memory}
 use Rattle.space.specs.declared.call.Call.{Call}
 use Rattle.space.specs.declared.call.Event.TheVariants.{Went, Asked, Ended}
@@ -11,7 +11,7 @@ use Rattle.space.specs.declared.call.End.TheVariants.{Running, Dry}
 use Rattle.space.specs.Reports.{ListedCall, AnswerValue}
 use Rattle.runs.specs.Machine.{Outcome, Goes, Asks, Ends}
 use Rattle.runner.specs.Answers.{Stream, Input, Output, Errors, Bytes, Transfer, faults_on, IsAnswered, AreAnswered, HasRun}
-use Rattle.runner.specs.Attending.{Streams, Told, RoseBy, HasCounted, Attended, CallAnswered, StepMade, IsOver, Steps}
+use Rattle.runner.specs.Attending.{Streams, Told, RoseBy, HasCounted, Attended, AttendedPartly, TakenInVain, CallAnswered, StepMade, IsOver, Steps}
 
 module _ {S : Type 0} (step : S → Outcome S) where
   pub run_none : (s : S) (b : Bytes) → HasRun step s 0 [] b b Running
@@ -98,55 +98,74 @@ counted_on a b c xs ys first second = record {
   errors = rw (add_faults Errors xs ys) (rose_on _ _ _ _ _ first.errors second.errors);
 }
 
--- after some steps the run stands at s, and what follows from there is the rest of the run
-pub record Reached {S : Type 0} (Shows : Outcome S → Type 0) (step : S → Outcome S) (start : S) (steps left : ℕ) (old now : Streams) (before : Bytes) : Type 0 where
+-- after so many steps the run stands at s, and what follows from there is the rest of the run
+pub record Reached {S : Type 0} (Shows : Outcome S → Type 0) (step : S → Outcome S) (start : S) (made : ℕ) (old now : Streams) (before : Bytes) : Type 0 where
   pub s : S
   pub done : List Transfer
   pub middle : Bytes
   pub shows : Shows (Goes s)
   pub told : Told now middle
   pub counted : HasCounted old now done
-  pub continues : (later : List Transfer) (after : Bytes) (e : End) → HasRun step s left later middle after e → HasRun step start steps (done ++ later) before after e
+  pub continues : (n : ℕ) (later : List Transfer) (after : Bytes) (e : End) → HasRun step s n later middle after e → HasRun step start (made + n) (done ++ later) before after e
 
-pub reached_start : {S : Type 0} (Shows : Outcome S → Type 0) (step : S → Outcome S) (start : S) (steps left : ℕ) (old : Streams) (before : Bytes) → left ≡ steps → Shows (Goes start) → Told old before → Reached Shows step start steps left old old before
-reached_start Shows step start steps left old before all shows told = record {
+none_made : (n : ℕ) → 0 + n ≡ n
+none_made n = omega arith
+
+pub reached_start : {S : Type 0} (Shows : Outcome S → Type 0) (step : S → Outcome S) (start : S) (old : Streams) (before : Bytes) → Shows (Goes start) → Told old before → Reached Shows step start 0 old old before
+reached_start Shows step start old before shows told = record {
   s = start;
   done = [];
   middle = before;
   shows = shows;
   told = told;
   counted = nothing_counted old;
-  continues = λ later after e run. rw (sym all) run;
+  continues = λ n later after e run. rw (none_made n) run;
 }
 
-pub reached_more : {S : Type 0} (Shows Later : Outcome S → Type 0) (step : S → Outcome S) (start : S) (steps more left : ℕ) (old now new : Streams) (before : Bytes) → more ≡ left + 1 → (r : Reached Shows step start steps more old now before) → StepMade Later step r.s now new r.middle → Reached Later step start steps left old new before
-reached_more Shows Later step start steps more left old now new before one r m = record {
+one_more : (made n : ℕ) → made + 1 + n ≡ made + (n + 1)
+one_more made n = omega arith
+
+pub reached_more : {S : Type 0} (Shows Later : Outcome S → Type 0) (step : S → Outcome S) (start : S) (made : ℕ) (old now new : Streams) (before : Bytes) → (r : Reached Shows step start made old now before) → StepMade Later step r.s now new r.middle → Reached Later step start (made + 1) old new before
+reached_more Shows Later step start made old now new before r m = record {
   s = m.next;
   done = r.done ++ m.transfers;
   middle = m.after;
   shows = m.shows;
   told = m.told;
   counted = counted_on old now new r.done m.transfers r.counted m.counted;
-  continues = λ later after e run. rw (append_assoc r.done m.transfers later) (r.continues (m.transfers ++ later) after e (rw one (m.continues left later after e run)));
+  continues = λ n later after e run. rw (append_assoc r.done m.transfers later, one_more made n) (r.continues (n + 1) (m.transfers ++ later) after e (m.continues n later after e run));
 }
 
-pub attended_over : {S : Type 0} (Shows : Outcome S → Type 0) (step : S → Outcome S) (start : S) (steps more left : ℕ) (old now new : Streams) (before : Bytes) (e : End) → more ≡ left + 1 → (r : Reached Shows step start steps more old now before) → IsOver step r.s e now new r.middle → Attended step start steps old new before e
-attended_over Shows step start steps more left old now new before e one r o = record {
+pub attended_over : {S : Type 0} (Shows : Outcome S → Type 0) (step : S → Outcome S) (start : S) (steps made n : ℕ) (old now new : Streams) (before : Bytes) (e : End) → steps ≡ made + (n + 1) → (r : Reached Shows step start made old now before) → IsOver step r.s e now new r.middle → Attended step start steps old new before e
+attended_over Shows step start steps made n old now new before e all r o = record {
   transfers = r.done ++ [];
   after = r.middle;
-  runs = r.continues [] r.middle e (rw (one, add-one left) (run_ends step r.s left r.middle e o.ends));
+  runs = rw all (r.continues (n + 1) [] r.middle e (rw (add-one n) (run_ends step r.s n r.middle e o.ends)));
   told = o.told;
   counted = counted_on old now new r.done [] r.counted o.counted;
 }
 
-pub attended_running : {S : Type 0} (Shows : Outcome S → Type 0) (step : S → Outcome S) (start : S) (steps left : ℕ) (old now : Streams) (before : Bytes)
-    → left ≡ 0 → Reached Shows step start steps left old now before → Attended step start steps old now before Running
-attended_running Shows step start steps left old now before none r = record {
+pub attended_running : {S : Type 0} (Shows : Outcome S → Type 0) (step : S → Outcome S) (start : S) (made : ℕ) (old now : Streams) (before : Bytes)
+    → Reached Shows step start made old now before → Attended step start made old now before Running
+attended_running Shows step start made old now before r = record {
   transfers = r.done ++ [];
   after = r.middle;
-  runs = r.continues [] r.middle Running (rw none (run_none step r.s r.middle));
+  runs = subst (λ (k : ℕ). HasRun step start k (r.done ++ []) before r.middle Running) (add-zero made) (r.continues 0 [] r.middle Running (run_none step r.s r.middle));
   told = r.told;
   counted = counted_on old now now r.done [] r.counted (nothing_counted now);
+}
+
+-- memory ran out in the step behind these
+pub attended_partly : {S : Type 0} (Shows : Outcome S → Type 0) (step : S → Outcome S) (start : S) (steps made : ℕ) (old now new : Streams) (before : Bytes)
+    → made ≤ steps → Reached Shows step start made old now before → ((middle : Bytes) → Told now middle → TakenInVain now new middle) → AttendedPartly step start steps old new before
+unfolding attended_running
+attended_partly Shows step start steps made old now new before within r taken = record {
+  made = made;
+  within = within;
+  ending = Running;
+  middle = now;
+  attended = attended_running Shows step start made old now before r;
+  taken = taken r.middle r.told;
 }
 
 none_is_some : (e : End) → None ≡ Some e → ⊥

@@ -3,7 +3,7 @@ use Rattle.std.proofs.Common.{◌≡◌, ◌≤◌, ℕ, List, [], ◌++◌, len
 use Rattle.std.proofs.Math.Seq.{drop-append_seam, take-append_seam}
 use Rattle.std.proofs.lemmas.List.{length-take, length-drop, length-append, take-append-drop, take-append-le, take_all}
 use Rattle.std.specs.Io.KnownBytes.{Consumes, IsAtEnd, Keeps}
-use Rattle.runner.specs.Attending.{Takes, TakesPartly}
+use Rattle.runner.specs.Attending.{Takes, TakesPartly, TakesInVain}
 
 -- the bytes so far are the first of those that were left, and the source has the rest
 pub record HasSoFar (now : Option (List ℕ)) (left bytes : List ℕ) : Type 0 where
@@ -65,3 +65,9 @@ taken_to_end now later left bytes into count n le h none consumed end =
     let empty : drop (length bytes) left ≡ [] = parts ∙ rest_empty later after e end in
     let all : length bytes ≡ length left = omega (arith, h.some, length-drop (length bytes) left, ap length empty) in
     (h.first ∙ take_all (length bytes) left (omega (arith, all)) ∙ sym (take_all count left (omega (arith, all, le))), e ∙ ap Some (sym parts))
+
+-- a piece was taken that found no memory
+pub taken_in_vain : (now later : Option (List ℕ)) (left bytes into : List ℕ) (n faults faults' : ℕ) → faults ≤ faults' → HasSoFar now left bytes → Consumes now later (take n into) → TakesInVain left later faults faults'
+taken_in_vain now later left bytes into n faults faults' le h consumed =
+    let more = more_taken now later left bytes (take n into) h consumed in
+    record { taken = length (bytes ++ take n into); left_is = more.rest; later = le }

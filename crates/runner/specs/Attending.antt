@@ -62,6 +62,21 @@ pub record Attended {S : Type 0} (step : S → Outcome S) (start : S) (steps : �
   pub told : Told new after
   pub counted : HasCounted old new transfers
 
+-- bytes were taken for a read, and memory ran out before it was answered
+pub record TakenInVain (old new : Streams) (before : Bytes) : Type 0 where
+  pub taken : ℕ
+  pub told : Told new (record before { left = drop taken before.left })
+  pub counted : HasCounted old new []
+
+-- some of these steps were made, and then bytes may have been taken in vain
+pub record AttendedPartly {S : Type 0} (step : S → Outcome S) (start : S) (steps : ℕ) (old new : Streams) (before : Bytes) : Type 0 where
+  pub made : ℕ
+  pub within : made ≤ steps
+  pub ending : End
+  pub middle : Streams
+  pub attended : Attended step start made old middle before ending
+  pub taken : TakenInVain middle new attended.after
+
 -- one call was answered: the run goes on from where this answer leads
 pub record CallAnswered {S : Type 0} (Shows : Outcome S → Type 0) (call : ListedCall) (next : AnswerValue → S) (old new : Streams) (before : Bytes) : Type 0 where
   pub answer : AnswerValue
@@ -81,6 +96,12 @@ pub record TakesPartly (now : Option (List ℕ)) (left : List ℕ) (count : ℕ)
   pub taken : ℕ
   pub some : taken ≤ length (take count left)
   pub left_is : Takes now left taken
+
+-- some bytes were taken, and memory ran out
+pub record TakesInVain (left : List ℕ) (now : Option (List ℕ)) (faults faults' : ℕ) : Type 0 where
+  pub taken : ℕ
+  pub left_is : Takes now left taken
+  pub later : faults ≤ faults'
 
 -- what came of taking so many bytes
 abbrev pub HasTaken : Taken → Option (List ℕ) → List ℕ → ℕ → Type 0

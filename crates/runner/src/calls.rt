@@ -1,12 +1,12 @@
 //! The answers to the calls of a program.
 
-ghost use Rattle.std.specs.Prelude.{◌≡◌, ◌≤◌, true, false, List, ℕ, OnOk, Some, length};
+ghost use Rattle.std.specs.Prelude.{◌≡◌, ◌≤◌, true, false, List, ℕ, OnOk, OnErr, Some, length};
 ghost use Rattle.space.specs.Memory.{ArePermitted};
 ghost use Rattle.space.specs.Reports.{ListedCall, Read, Write, Close, AnswerValue};
 ghost use Rattle.runs.specs.Machine.{Outcome, Asks};
 ghost use Rattle.runner.specs.Answers.{Bytes};
 ghost use Rattle.runner.specs.Stepping.{Describes, IsHeld, Resumes, StandAt};
-ghost use Rattle.runner.specs.Attending.{Streams, streams_by, with_input, with_output, with_errors, Told, CallAnswered, ReadAnswered, WriteAnswered};
+ghost use Rattle.runner.specs.Attending.{Streams, streams_by, with_input, with_output, with_errors, Told, CallAnswered, TakenInVain, ReadAnswered, TakesInVain, WriteAnswered};
 
 use crate::machine::Machine;
 use crate::transfers::{Taken, put_from, take_up_to};
@@ -40,6 +40,10 @@ pub fn attend<M: Machine, I: Source, O: Sink, E: Sink>(
         → CallAnswered (M.shows machine.new step) listed next
         (streams_by I.left I.faults O.shown O.faults E.shown E.faults input.old output.old errors.old)
         (streams_by I.left I.faults O.shown O.faults E.shown E.faults input.new output.new errors.new) before) }
+    ensures in_vain { OnErr result ((before : Bytes)
+        → Told (streams_by I.left I.faults O.shown O.faults E.shown E.faults input.old output.old errors.old) before
+        → TakenInVain (streams_by I.left I.faults O.shown O.faults E.shown E.faults input.old output.old errors.old)
+        (streams_by I.left I.faults O.shown O.faults E.shown E.faults input.new output.new errors.new) before) }
     ensures later { E.faults errors.old ≤ E.faults errors.new }
 {
     match call.kind {
@@ -65,6 +69,8 @@ fn attend_read<M: Machine, I: Source>(
         → Told (with_input I.left I.faults s input.old) before
         → CallAnswered (M.shows machine.new step) (Read call.fd call.count) next
         (with_input I.left I.faults s input.old) (with_input I.left I.faults s input.new) before) }
+    ensures in_vain { OnErr result ((s : Streams) (before : Bytes) → Told (with_input I.left I.faults s input.old) before
+        → TakenInVain (with_input I.left I.faults s input.old) (with_input I.left I.faults s input.new) before) }
 {
     if call.fd == 0 {
         read(alloc, machine, call.count, input)?;
@@ -128,6 +134,8 @@ fn read<M: Machine, I: Source>(
     ensures answered { OnOk result ((step : M.State → Outcome M.State) (listed : ListedCall) (next : AnswerValue → M.State) (left : List ℕ)
         → M.shows machine.old step (Asks listed next) → I.left input.old ≡ Some left
         → ReadAnswered (M.shows machine.new step) next count left (I.left input.new) (I.faults input.old) (I.faults input.new)) }
+    ensures in_vain { OnErr result ((left : List ℕ) → I.left input.old ≡ Some left
+        → TakesInVain left (I.left input.new) (I.faults input.old) (I.faults input.new)) }
 {
     match take_up_to(alloc, input, count as usize)? {
         Taken::Bytes(bytes) => machine.answer(Answer::Got(bytes.as_slice())),

@@ -1,10 +1,10 @@
 //! A run of so many steps at most.
 
-ghost use Rattle.std.specs.Prelude.{◌≡◌, ◌≢◌, ◌≤◌, false, None, IfOk, IfSome};
+ghost use Rattle.std.specs.Prelude.{◌≡◌, ◌≢◌, ◌≤◌, false, None, IfOk, OnErr, IfSome};
 ghost use Rattle.runs.specs.Machine.{Outcome, Goes};
 ghost use Rattle.runner.specs.Answers.{Bytes};
 ghost use Rattle.runner.specs.Stepping.{GoesOn};
-ghost use Rattle.runner.specs.Attending.{streams_by, Told, Steps, Attended};
+ghost use Rattle.runner.specs.Attending.{streams_by, Told, Steps, TakenInVain, Attended, AttendedPartly};
 
 use crate::calls::attend;
 use crate::machine::Machine;
@@ -32,6 +32,12 @@ pub fn run<M: Machine, I: Source, O: Sink, E: Sink>(
         → Attended step start steps
         (streams_by I.left I.faults O.shown O.faults E.shown E.faults input.old output.old errors.old)
         (streams_by I.left I.faults O.shown O.faults E.shown E.faults input.new output.new errors.new) before ending) }
+    ensures partly { OnErr result ((step : M.State → Outcome M.State) (start : M.State) (before : Bytes)
+        → M.shows machine.old step (Goes start)
+        → Told (streams_by I.left I.faults O.shown O.faults E.shown E.faults input.old output.old errors.old) before
+        → AttendedPartly step start steps
+        (streams_by I.left I.faults O.shown O.faults E.shown E.faults input.old output.old errors.old)
+        (streams_by I.left I.faults O.shown O.faults E.shown E.faults input.new output.new errors.new) before) }
     ensures later { E.faults errors.old ≤ E.faults errors.new }
 {
     for _ in 0..steps {
@@ -62,6 +68,10 @@ fn make_step<M: Machine, I: Source, O: Sink, E: Sink>(
         → Steps (M.shows machine.new step) step s
         (streams_by I.left I.faults O.shown O.faults E.shown E.faults input.old output.old errors.old)
         (streams_by I.left I.faults O.shown O.faults E.shown E.faults input.new output.new errors.new) before ended) }
+    ensures in_vain { OnErr result ((before : Bytes)
+        → Told (streams_by I.left I.faults O.shown O.faults E.shown E.faults input.old output.old errors.old) before
+        → TakenInVain (streams_by I.left I.faults O.shown O.faults E.shown E.faults input.old output.old errors.old)
+        (streams_by I.left I.faults O.shown O.faults E.shown E.faults input.new output.new errors.new) before) }
     ensures later { E.faults errors.old ≤ E.faults errors.new }
 {
     match machine.step() {

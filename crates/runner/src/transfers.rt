@@ -1,11 +1,11 @@
 //! Bytes between the memory of a program and the streams.
 
-ghost use Rattle.std.specs.Prelude.{◌≡◌, false, ℕ, List, length, IfOk};
+ghost use Rattle.std.specs.Prelude.{◌≡◌, false, ℕ, List, Some, length, IfOk, OnErr};
 ghost use Rattle.outside.specs.Causes.{HasCause};
 ghost use Rattle.outside.specs.Streams.{PutsAll};
 ghost use Rattle.space.specs.Memory.{ArePermitted};
 ghost use Rattle.runner.specs.Stepping.{StandAt};
-ghost use Rattle.runner.specs.Attending.{HasTaken, HasTakeCause};
+ghost use Rattle.runner.specs.Attending.{HasTaken, HasTakeCause, TakesInVain};
 
 use outside::{Failed, Sink, Source, put_all};
 use space::Space;
@@ -29,6 +29,8 @@ pub fn take_up_to<I: Source>(alloc: Global, input: &mut I, count: usize) -> Resu
     ensures taken { IfOk result (λ taken. (left : List ℕ) → I.left input.old ≡ Some left
         → HasTaken taken (I.left input.new) left count) }
     ensures cause { IfOk result (λ taken. HasTakeCause (I.faults input.old) (I.faults input.new) taken) }
+    ensures in_vain { OnErr result ((left : List ℕ) → I.left input.old ≡ Some left
+        → TakesInVain left (I.left input.new) (I.faults input.old) (I.faults input.new)) }
 {
     let mut bytes = Vec::new(alloc);
     let mut piece = [0; PIECE];

@@ -1,6 +1,6 @@
 -- A run that ended so has the cause of that end, and the run of the host's machine is that of its program.
 use Rattle.std.proofs.Common.{◌≡◌, ◌≢◌, refl, sym, subst, ℕ, List, []}
-use Rattle.std.specs.Prelude.{Result, Ok, Err, IfOk}
+use Rattle.std.specs.Prelude.{Result, Ok, Err, IfOk, OnErr}
 use Rattle.space.specs.declared.program.Kind.TheVariants.{Ia32}
 use Rattle.space.specs.declared.program.Program.{Program}
 use Rattle.space.specs.declared.call.End.{End}
@@ -9,10 +9,10 @@ use Rattle.runs.specs.Machine.{Outcome, Goes}
 use Rattle.machines.specs.Host.{Host, host_machine, host_start}
 use Rattle.ia_step.specs.Steps.{Seen, Shows}
 use Rattle.runner.specs.Answers.{Bytes}
-use Rattle.runner.specs.Attending.{Streams, Told, Attended}
+use Rattle.runner.specs.Attending.{Streams, Told, Attended, AttendedPartly}
 use Rattle.runner.specs.Hosts.{ShowsHost}
 use Rattle.trans_tool.specs.Seen.{Outside}
-use Rattle.trans_tool.specs.Running.{RanTo, EndsRun, HasRunTo, AttendedOn, cause_of}
+use Rattle.trans_tool.specs.Running.{RanTo, EndsRun, HasRunTo, HasRunPartly, AttendedOn, PartlyOn, cause_of}
 
 pub ended_so : (o : Outside) (file : List ℕ) (steps : ℕ) (old new : Streams) (end : End) → end ≢ ending.Dry → RanTo o file steps old new end → EndsRun o file steps old new (cause_of end)
 ended_so o file steps old new (ending.Exit number) apart ran = ran
@@ -29,3 +29,10 @@ pub host_ran : {E : Type 0} → (r : Result End E) (program : Program) (steps : 
 host_ran (Ok end) program steps old new m is shows attended =
     λ words ops before reads_words reads_ops told. subst (λ kind. AttendedOn kind words ops program steps old new before end) (sym is) (attended (host_machine ops program) (host_start program []) before (record { ops = ops; reads = reads_ops; program = program; is = refl; shows = shows }) told)
 host_ran (Err e) program steps old new m is shows attended = attended
+
+pub host_ran_partly : {E : Type 0} → (r : Result End E) (program : Program) (steps : ℕ) (old new : Streams) (m : Seen) → program.kind ≡ Ia32 → Shows program m (Goes (host_start program []))
+    → OnErr r ((step : Host → Outcome Host) (start : Host) (before : Bytes) → ShowsHost m step (Goes start) → Told old before → AttendedPartly step start steps old new before)
+    → OnErr r (HasRunPartly program steps old new)
+host_ran_partly (Ok end) program steps old new m is shows attended = attended
+host_ran_partly (Err e) program steps old new m is shows attended =
+    λ words ops before reads_words reads_ops told. subst (λ kind. PartlyOn kind words ops program steps old new before) (sym is) (attended (host_machine ops program) (host_start program []) before (record { ops = ops; reads = reads_ops; program = program; is = refl; shows = shows }) told)

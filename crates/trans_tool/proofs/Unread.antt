@@ -32,7 +32,7 @@ module _ (o : Outside) (file : List ℕ) where
   run_unread steps old new (FileRead number) h s = (h.0, h.1, s)
   run_unread steps old new (TooLong number) h s = (h.0, h.1, s)
   run_unread steps old new (BadElf rule offset) h s = (h.0, s)
-  run_unread steps old new Memory h s = tt
+  run_unread steps old new Memory h s = inl s
   run_unread steps old new Done h s = absurd h
   run_unread steps old new Usage h s = absurd h
   run_unread steps old new (FileWrite number) h s = absurd h

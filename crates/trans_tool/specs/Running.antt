@@ -1,5 +1,5 @@
 -- What a run of `run FILE` did, by its cause.
-use Rattle.std.specs.Prelude.{⊤, ℕ, List, [], Option}
+use Rattle.std.specs.Prelude.{◌⊎◌, ℕ, List, [], Option}
 use Rattle.space.specs.declared.program.Kind.{Kind}
 use Rattle.space.specs.declared.program.Kind.TheVariants.{PowerPc, Ia32}
 use Rattle.space.specs.declared.program.Program.{Program}
@@ -11,7 +11,7 @@ use Rattle.machines.specs.Readings.{ReadsWords, Fetched, ReadsOps}
 use Rattle.machines.specs.Guest.{guest_machine, guest_start}
 use Rattle.machines.specs.Host.{host_machine, host_start}
 use Rattle.runner.specs.Answers.{Bytes, HasWholeRun}
-use Rattle.runner.specs.Attending.{Streams, Told, Attended}
+use Rattle.runner.specs.Attending.{Streams, Told, Attended, AttendedPartly}
 use Rattle.trans_tool.specs.Seen.{Outside, StreamsStand}
 use Rattle.trans_tool.specs.Listing.{IsLoaded, EndsUnread}
 use Rattle.trans_tool.specs.declared.cause.Cause.{Cause}
@@ -23,12 +23,23 @@ abbrev pub AttendedOn : Kind → (ℕ → Option Instr) → (List ℕ → Option
 AttendedOn PowerPc words ops program steps old new before end = Attended (guest_machine words program) (guest_start program) steps old new before end
 AttendedOn Ia32 words ops program steps old new before end = Attended (host_machine ops program) (host_start program []) steps old new before end
 
+-- the same for a run that made some of these steps, and may have taken bytes in vain
+abbrev pub PartlyOn : Kind → (ℕ → Option Instr) → (List ℕ → Option Fetched) → Program → ℕ → Streams → Streams → Bytes → Type 0
+PartlyOn PowerPc words ops program steps old new before = AttendedPartly (guest_machine words program) (guest_start program) steps old new before
+PartlyOn Ia32 words ops program steps old new before = AttendedPartly (host_machine ops program) (host_start program []) steps old new before
+
 -- the program's run of so many steps ended so; what is said of bytes holds where all three streams tell them, and over
 -- the one reading of words and that of bytes
 abbrev pub HasRunTo : Program → ℕ → Streams → Streams → End → Type 0
 HasRunTo program steps old new end =
     (words : ℕ → Option Instr) (ops : List ℕ → Option Fetched) (before : Bytes) → ReadsWords words → ReadsOps ops
     → Told old before → AttendedOn program.kind words ops program steps old new before end
+
+-- the program's run made some of these steps
+abbrev pub HasRunPartly : Program → ℕ → Streams → Streams → Type 0
+HasRunPartly program steps old new =
+    (words : ℕ → Option Instr) (ops : List ℕ → Option Fetched) (before : Bytes) → ReadsWords words → ReadsOps ops
+    → Told old before → PartlyOn program.kind words ops program steps old new before
 
 -- some file gives the program
 abbrev pub IsLoadable : Program → Type 0
@@ -40,7 +51,13 @@ pub record RanTo (o : Outside) (file : List ℕ) (steps : ℕ) (old new : Stream
   pub loaded : IsLoaded o file program
   pub ran : HasRunTo program steps old new end
 
--- What each cause of the command says. Where memory runs out a part of the run may have been made.
+-- FILE held a program whose run made some of these steps
+pub record RanPartly (o : Outside) (file : List ℕ) (steps : ℕ) (old new : Streams) : Type 0 where
+  pub program : Program
+  pub loaded : IsLoaded o file program
+  pub ran : HasRunPartly program steps old new
+
+-- What each cause of the command says. Where memory runs out some of the steps may have been made.
 abbrev pub EndsRun : Outside → List ℕ → ℕ → Streams → Streams → Cause → Type 0
 EndsRun o file steps old new (cause.GuestExit number) = RanTo o file steps old new (ending.Exit number)
 EndsRun o file steps old new cause.StepsSpent = RanTo o file steps old new ending.Running
@@ -48,7 +65,7 @@ EndsRun o file steps old new cause.Trap = RanTo o file steps old new ending.Trap
 EndsRun o file steps old new cause.Illegal = RanTo o file steps old new ending.Illegal
 EndsRun o file steps old new cause.Outside = RanTo o file steps old new ending.Outside
 EndsRun o file steps old new cause.DivideFault = RanTo o file steps old new ending.DivideFault
-EndsRun o file steps old new cause.Memory = ⊤
+EndsRun o file steps old new cause.Memory = StreamsStand old new ⊎ RanPartly o file steps old new
 EndsRun o file steps old new c = EndsUnread o file (StreamsStand old new) c
 
 -- the cause of a run that ends so; none ends dry, since every call is answered

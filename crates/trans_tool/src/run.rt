@@ -1,9 +1,9 @@
 //! The command `run FILE --steps=N`.
 
-ghost use Rattle.std.specs.Prelude.{◌≡◌, ◌≢◌, ◌≤◌, IfOk};
+ghost use Rattle.std.specs.Prelude.{◌≡◌, ◌≢◌, ◌≤◌, IfOk, OnErr};
 ghost use Rattle.runner.specs.Attending.{streams_by};
 ghost use Rattle.trans_tool.specs.Seen.{seen_by, FilesStand};
-ghost use Rattle.trans_tool.specs.Running.{EndsRun, IsLoadable, HasRunTo, cause_of};
+ghost use Rattle.trans_tool.specs.Running.{EndsRun, IsLoadable, HasRunTo, HasRunPartly, cause_of};
 
 use crate::Cause;
 use crate::loading::program_in;
@@ -55,6 +55,9 @@ fn run_program<I: Source, O: Sink, E: Sink>(
     ensures ran { IfOk result (λ end. HasRunTo program steps
         (streams_by I.left I.faults O.shown O.faults E.shown E.faults input.old output.old errors.old)
         (streams_by I.left I.faults O.shown O.faults E.shown E.faults input.new output.new errors.new) end) }
+    ensures partly { OnErr result (HasRunPartly program steps
+        (streams_by I.left I.faults O.shown O.faults E.shown E.faults input.old output.old errors.old)
+        (streams_by I.left I.faults O.shown O.faults E.shown E.faults input.new output.new errors.new)) }
     ensures later { E.faults errors.old ≤ E.faults errors.new }
 {
     loaded_is_apart();

@@ -1,6 +1,6 @@
 //! Laws of a translation's machines and memory. Each is the contract of a function that does nothing.
 
-ghost use Rattle.upkeep.specs.Loaded.{LoadedAreApart, LoadedAreLow, LoadedHaveBytes};
+ghost use Rattle.upkeep.specs.Loaded.{LoadedHaveBytes};
 ghost use Rattle.upkeep.specs.Written.{WrittenIsInPlace, WrittenHasBytes, WrittenStarts};
 ghost use Rattle.upkeep.specs.Steps.{HostKeepsUnwritten, SettingKeepsUnwritten, AllLiveIsEnough};
 
@@ -16,12 +16,9 @@ pub fn all_live_is_enough()
     ensures { AllLiveIsEnough }
 {}
 
-/// No address lies in two segments of an accepted file. Each ends at 0xC0000000 or below, and is made of
-/// bytes where the file is.
-pub fn segments_are_apart()
-    ensures apart { LoadedAreApart }
-    ensures low { LoadedAreLow }
-    ensures bytes { LoadedHaveBytes }
+/// The segments of a program that a file of bytes lays out are made of bytes.
+pub fn loaded_has_bytes()
+    ensures { LoadedHaveBytes }
 {}
 
 /// A written file has the memory of its source and, apart from it, a home page that may be read and

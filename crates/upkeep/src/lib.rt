@@ -3,4 +3,4 @@
 
 mod laws;
 
-pub use laws::{all_live_is_enough, has_home, host_keeps_unwritten, segments_are_apart, starts};
+pub use laws::{all_live_is_enough, has_home, host_keeps_unwritten, loaded_has_bytes, starts};

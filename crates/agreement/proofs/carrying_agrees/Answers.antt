@@ -72,6 +72,6 @@ returns c = λ P file bytes x.
       blocks = c.blocks_stand.ensures reading ops P Q (first_of P) x.laid.entry x.laid.words area code.entries reads_words reads_ops x.laid.has x.laid.built carried;
       holds = c.hold_stands.ensures reading ops P Q (first_of P) x.laid.entry x.laid.words area code.entries reads_ops carried;
     } in
-    let start = c.starts.ensures.start P Q area (table_of code) code.bytes s choices x.in_area written (c.segments_are_apart.ensures.bytes Ia32 file Q bytes x.loaded) (record { guest = refl; area_is = refl; image = refl; entry_map = λ w. refl; entry = starts_there P area code x.laid }) in
+    let start = c.starts.ensures.start P Q area (table_of code) code.bytes s choices x.in_area written (c.loaded_has_bytes.ensures Ia32 file Q bytes x.loaded) (record { guest = refl; area_is = refl; image = refl; entry_map = λ w. refl; entry = starts_there P area code x.laid }) in
     c.agrees.ensures s holds (guest_start P) (host_start Q choices) start in
     c.agrees_if_narrowly.ensures.files P Q file x.loaded narrowly

@@ -1,6 +1,6 @@
 use Rattle.std.proofs.Common.{sym}
 use Rattle.runner.specs.Attending.{streams_by}
-use Rattle.runner.proofs.Answering.{listed_read, listed_write}
+use Rattle.runner.proofs.Answering.{listed_read, listed_write, if_err}
 use Rattle.runner.proofs.calls.attend.Goals as goal
 
 pub returns-in_ok-attend_read-in-Read-clause-answered :
@@ -14,3 +14,7 @@ returns-in-Write-clause-answered g c = λ step listed next before shows describe
     let w = listed_write (g.M.Machine.memory c.args.machine.now) c.args.call listed c.in-Write.is describes in
     let e = w.is in
     rw e (c.attend_write.ensures.answered step w.bytes next (streams_by g.I.Source.left g.I.Source.faults g.O.Sink.shown g.O.Sink.faults g.E.Sink.shown g.E.Sink.faults c.args.input.now c.args.output.now c.args.errors.now) before (rw (sym e) shows) w.count w.stand told)
+
+pub returns-in_err-attend_read-in-Read-clause-in_vain : goal.returns-in_err-attend_read-in-Read-clause-in_vain
+returns-in_err-attend_read-in-Read-clause-in_vain g c = if_err c.from_residual.result _
+    (c.in_err-attend_read-in-Read.ensures.in_vain (streams_by g.I.Source.left g.I.Source.faults g.O.Sink.shown g.O.Sink.faults g.E.Sink.shown g.E.Sink.faults c.args.input.now c.args.output.now c.args.errors.now))

@@ -1,4 +1,4 @@
-use Rattle.std.proofs.Common.{◌≡◌, ◌≤◌, false, ◌-◌}
+use Rattle.std.proofs.Common.{◌≡◌, ◌≤◌, false}
 use Rattle.runs.specs.Machine.{Outcome, Goes}
 use Rattle.runner.specs.Answers.{Bytes}
 use Rattle.runner.specs.Attending.{streams_by, Told}
@@ -14,7 +14,7 @@ invariant-loop g l = record {
   reached : (step : g.M.Machine.State → Outcome g.M.Machine.State) (start : g.M.Machine.State) (before : Bytes)
       → g.M.Machine.shows l.initial.machine step (Goes start)
       → Told (streams_by g.I.Source.left g.I.Source.faults g.O.Sink.shown g.O.Sink.faults g.E.Sink.shown g.E.Sink.faults l.initial.input l.initial.output l.initial.errors) before
-      → Reached (g.M.Machine.shows l.machine step) step start l.steps (l.steps - l.counter)
+      → Reached (g.M.Machine.shows l.machine step) step start l.counter
       (streams_by g.I.Source.left g.I.Source.faults g.O.Sink.shown g.O.Sink.faults g.E.Sink.shown g.E.Sink.faults l.initial.input l.initial.output l.initial.errors)
       (streams_by g.I.Source.left g.I.Source.faults g.O.Sink.shown g.O.Sink.faults g.E.Sink.shown g.E.Sink.faults l.input l.output l.errors) before;
 }

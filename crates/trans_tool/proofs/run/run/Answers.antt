@@ -1,3 +1,4 @@
+use Rattle.std.proofs.Common.{inr}
 use Rattle.trans_tool.proofs.Ran.{ended_so}
 use Rattle.trans_tool.proofs.run.run.Goals as goal
 
@@ -8,3 +9,10 @@ returns-in-Ok-run_program-clause-ends g c =
       loaded = c.in-Ok.ensures.loaded;
       ran = c.in-Ok-run_program.ensures.ran;
     }))
+
+pub returns-in-Err-run_program-clause-ends : goal.returns-in-Err-run_program-clause-ends
+returns-in-Err-run_program-clause-ends g c = inr (record {
+  program = c.in-Ok.program;
+  loaded = c.in-Ok.ensures.loaded;
+  ran = c.in-Err-run_program.ensures.partly;
+})

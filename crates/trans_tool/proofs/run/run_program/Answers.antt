@@ -6,7 +6,7 @@ use Rattle.machines.specs.Host.{host_machine, host_start}
 use Rattle.ia_step.specs.Steps.{Shows}
 use Rattle.ia_step.specs.Values.{choice_of}
 use Rattle.runner.specs.Attending.{streams_by}
-use Rattle.trans_tool.proofs.Ran.{host_ran}
+use Rattle.trans_tool.proofs.Ran.{host_ran, host_ran_partly}
 use Rattle.trans_tool.proofs.run.run_program.Goals as goal
 
 pub run-requires-clause-stands : goal.run-requires-clause-stands
@@ -29,3 +29,10 @@ returns-in-Ia32-clause-ran g c = host_ran c.run-in-Ia32.result c.args.program c.
     _ c.start-machine-in-Ia32.result c.in-Ia32.is
     (subst (λ items. Shows c.args.program c.start-machine-in-Ia32.result (Goes (host_start c.args.program (map choice_of items)))) c.new.ensures.items c.start-machine-in-Ia32.ensures)
     c.run-in-Ia32.ensures.attended
+
+pub returns-in-Ia32-clause-partly : goal.returns-in-Ia32-clause-partly
+returns-in-Ia32-clause-partly g c = host_ran_partly c.run-in-Ia32.result c.args.program c.args.steps
+    (streams_by g.I.Source.left g.I.Source.faults g.O.Sink.shown g.O.Sink.faults g.E.Sink.shown g.E.Sink.faults c.args.input.now c.args.output.now c.args.errors.now)
+    _ c.start-machine-in-Ia32.result c.in-Ia32.is
+    (subst (λ items. Shows c.args.program c.start-machine-in-Ia32.result (Goes (host_start c.args.program (map choice_of items)))) c.new.ensures.items c.start-machine-in-Ia32.ensures)
+    c.run-in-Ia32.ensures.partly
