@@ -39,11 +39,14 @@ items_in taken.Failed = []
 failed_is_none : (v : Vec ℕ Global) → taken.Failed ≡ taken.Bytes v → ⊥
 failed_is_none v e = grind arith
 
-pub taken_in_vain : (s : Streams) (b : Bytes) → Told s b → (now : Option (List ℕ)) (faults : ℕ) → TakesInVain b.left now s.input_faults faults
-    → TakenInVain s (record s { left = now; input_faults = faults }) b
+pub taken_in_vain : (s : Streams) (b : Bytes) → Told s b → (fd count : ℕ) → fd ≡ 0 → (now : Option (List ℕ)) (faults : ℕ) → TakesInVain count b.left now s.input_faults faults
+    → TakenInVain (Read fd count) s (record s { left = now; input_faults = faults }) b
 unfolding faults_on
-taken_in_vain s b told now faults t = record {
+taken_in_vain s b told fd count first now faults t = record {
+  count = count;
+  is_read = ap (λ n. Read n count) first;
   taken = t.taken;
+  some = t.some;
   told = record { left = t.left_is; output = told.output; errors = told.errors };
   counted = record { input = later_rose _ _ t.later; output = none_rose _; errors = none_rose _ };
 }

@@ -1,5 +1,6 @@
 -- A run, step by step.
-use Rattle.std.proofs.Common.{◌≡◌, ◌≢◌, ◌≤◌, ◌+◌, ℕ, suc, List, [], ◌∷◌, ◌++◌, Option, Some, None, refl, sym, ap, ◌∙◌, subst, arith, add-one, add-zero, append_assoc}
+use Rattle.std.proofs.Common.{◌≡◌, ◌≢◌, ◌≤◌, ◌+◌, ℕ, suc, List, [], ◌∷◌, ◌++◌, Option, Some, None, refl, sym, ap, ◌∙◌, subst, arith, append_assoc}
+use Rattle.std.proofs.lemmas.List.{append-nil}
 use Rattle.space.specs.Memory.{Memory}
 use Rattle.space.specs.declared.call.Call.{Call}
 use Rattle.space.specs.declared.call.Event.TheVariants.{Went, Asked, Ended}
@@ -8,30 +9,57 @@ use Rattle.std.proofs.lemmas.List.Sums.{sum_by-append}
 use Rattle.runner.proofs.Answering.{none_rose}
 use Rattle.space.specs.declared.call.End.{End}
 use Rattle.space.specs.declared.call.End.TheVariants.{Running, Dry}
-use Rattle.space.specs.Reports.{ListedCall, AnswerValue}
-use Rattle.runs.specs.Machine.{Outcome, Goes, Asks, Ends}
+use Rattle.space.specs.Reports.{ListedCall, AnswerValue, listed}
+use Rattle.runs.specs.Machine.{Outcome, Goes, Asks, Ends, run}
 use Rattle.runner.specs.Answers.{Stream, Input, Output, Errors, Bytes, Transfer, faults_on, IsAnswered, AreAnswered, HasRun}
-use Rattle.runner.specs.Attending.{Streams, Told, RoseBy, HasCounted, Attended, AttendedPartly, TakenInVain, CallAnswered, StepMade, IsOver, Steps}
+use Rattle.runner.specs.Attending.{Streams, Told, RoseBy, HasCounted, Attended, AttendedPartly, TakenInVain, CallAnswered, IsMade, StepMade, StepInVain, IsOver, Steps}
+
+-- The run of so many steps lists calls that are answered so, and behind them these, and ends so.
+pub record HasReport {S : Type 0} (step : S → Outcome S) (start : S) (steps : ℕ) (transfers : List Transfer) (before after : Bytes) (asked : List ListedCall) (ending : End) : Type 0 where
+  pub answers : List AnswerValue
+  pub calls : List ListedCall
+  pub attended : AreAnswered calls answers transfers before after
+  pub report : run step steps answers start ≡ record { calls = calls ++ asked; ending = ending }
 
 module _ {S : Type 0} (step : S → Outcome S) where
-  pub run_none : (s : S) (b : Bytes) → HasRun step s 0 [] b b Running
+  pub run_none : (s : S) (b : Bytes) → HasReport step s 0 [] b b [] Running
   unfolding AreAnswered
-  run_none s b = record { answers = []; attended = (refl, refl); ends = refl }
+  run_none s b = record { answers = []; calls = []; attended = (refl, refl); report = refl }
 
-  pub run_ends : (s : S) (n : ℕ) (b : Bytes) (e : End) → step s ≡ Ends e → HasRun step s (suc n) [] b b e
+  pub run_ends : (s : S) (n : ℕ) (b : Bytes) (e : End) → step s ≡ Ends e → HasReport step s (suc n) [] b b [] e
   unfolding AreAnswered
-  run_ends s n b e ended = record { answers = []; attended = rw ended (refl, refl); ends = rw ended refl }
+  run_ends s n b e ended = record { answers = []; calls = []; attended = (refl, refl); report = rw ended refl }
 
-  pub run_goes : (s t : S) (n : ℕ) (ts : List Transfer) (b a : Bytes) (e : End) → step s ≡ Goes t → HasRun step t n ts b a e → HasRun step s (suc n) ts b a e
-  run_goes s t n ts b a e goes r = record { answers = r.answers; attended = rw goes r.attended; ends = rw goes r.ends }
-
-  pub run_asks : (s : S) (n : ℕ) (call : ListedCall) (next : AnswerValue → S) (answer : AnswerValue) (first later : List Transfer) (b m a : Bytes) (e : End) → step s ≡ Asks call next → IsAnswered call answer first b m → HasRun step (next answer) n later m a e → HasRun step s (suc n) (first ++ later) b a e
+  pub run_waits : (s : S) (n : ℕ) (b : Bytes) (call : ListedCall) (next : AnswerValue → S) → step s ≡ Asks call next → HasReport step s (suc n) [] b b (call ∷ []) Dry
   unfolding AreAnswered
-  run_asks s n call next answer first later b m a e asks now r = record {
+  run_waits s n b call next asks = record { answers = []; calls = []; attended = (refl, refl); report = rw asks refl }
+
+  run_goes : (s t : S) (n : ℕ) (ts : List Transfer) (b a : Bytes) (asked : List ListedCall) (e : End) → step s ≡ Goes t → HasReport step t n ts b a asked e → HasReport step s (suc n) ts b a asked e
+  run_goes s t n ts b a asked e goes r = record { answers = r.answers; calls = r.calls; attended = r.attended; report = rw goes r.report }
+
+  run_asks : (s : S) (n : ℕ) (call : ListedCall) (next : AnswerValue → S) (answer : AnswerValue) (first later : List Transfer) (b m a : Bytes) (asked : List ListedCall) (e : End) → step s ≡ Asks call next → IsAnswered call answer first b m → HasReport step (next answer) n later m a asked e → HasReport step s (suc n) (first ++ later) b a asked e
+  unfolding AreAnswered
+  run_asks s n call next answer first later b m a asked e asks now r = record {
     answers = answer ∷ r.answers;
-    attended = rw asks (record { first = first; later = later; middle = m; parts = refl; now = now; next = r.attended });
-    ends = rw asks r.ends;
+    calls = call ∷ r.calls;
+    attended = record { first = first; later = later; middle = m; parts = refl; now = now; next = r.attended };
+    report = rw asks (ap (listed call) r.report);
   }
+
+  -- what follows a step that was made is the rest of the run
+  run_made : (s next : S) (n : ℕ) (first later : List Transfer) (b m a : Bytes) (asked : List ListedCall) (e : End) (o : Outcome S) → step s ≡ o → IsMade o first b m next → HasReport step next n later m a asked e → HasReport step s (suc n) (first ++ later) b a asked e
+  run_made s next n first later b m a asked e (Goes t) is made r =
+      rw (made.1) (run_goes s t n later b a asked e is (rw (sym made.0, sym made.2) r))
+  run_made s next n first later b m a asked e (Asks call f) is made r =
+      run_asks s n call f made.0 first later b m a asked e is made.2 (rw (sym made.1) r)
+  run_made s next n first later b m a asked e (Ends f) is made r = absurd made
+
+pub has_run : {S : Type 0} (step : S → Outcome S) (start : S) (steps : ℕ) (transfers : List Transfer) (before after : Bytes) (e : End) → HasReport step start steps transfers before after [] e → HasRun step start steps transfers before after e
+has_run step start steps transfers before after e r = record {
+  answers = r.answers;
+  attended = subst (λ calls. AreAnswered calls r.answers transfers before after) (sym (ap (λ report. report.calls) r.report ∙ append-nil r.calls)) r.attended;
+  ends = ap (λ report. report.ending) r.report;
+}
 
 pub nothing_counted : (s : Streams) → HasCounted s s []
 unfolding faults_on
@@ -43,10 +71,10 @@ module _ {S : Type 0} (Shows : Outcome S → Type 0) (step : S → Outcome S) (s
     next = t;
     transfers = [];
     after = b;
+    made = rw is (refl, refl, refl);
     shows = shows;
     told = told;
     counted = nothing_counted streams;
-    continues = λ n later last e run. rw (add-one n) (run_goes step s t n later b last e is run);
   }
   went m streams b (Asks call next) is told shows tells = elim tells [ ]
   went m streams b (Ends e) is told shows tells = elim tells [ ]
@@ -61,12 +89,19 @@ module _ {S : Type 0} (Shows : Outcome S → Type 0) (step : S → Outcome S) (s
         next = next a.answer;
         transfers = a.transfers;
         after = a.after;
+        made = rw is (a.answer, refl, a.answered);
         shows = a.shows;
         told = a.told;
         counted = a.counted;
-        continues = λ n later last e run. rw (add-one n) (run_asks step s n call next a.answer a.transfers later b a.after last e is a.answered run);
       }
   asked Before m c old new b (Ends e) is shown tells answers = elim tells [ ]
+
+  pub waits : (Before : Outcome S → Type 0) (m : Memory) (c : Call) (old new : Streams) (b : Bytes) (o : Outcome S) → step s ≡ o → Before o → Tells m (Asked c) o
+      → ((listed : ListedCall) (next : AnswerValue → S) → Before (Asks listed next) → Describes m c listed → TakenInVain listed old new b)
+      → StepInVain step s old new b
+  waits Before m c old new b (Goes t) is shown tells taken = elim tells [ ]
+  waits Before m c old new b (Asks call next) is shown tells taken = record { call = call; next = next; asks = is; taken = taken call next shown tells }
+  waits Before m c old new b (Ends e) is shown tells taken = elim tells [ ]
 
   pub over : (m : Memory) (streams : Streams) (b : Bytes) (end : End) (o : Outcome S) → step s ≡ o → Told streams b → Tells m (Ended end) o → IsOver step s end streams streams b
   over m streams b end (Goes t) is told tells = elim tells [ ]
@@ -106,7 +141,7 @@ pub record Reached {S : Type 0} (Shows : Outcome S → Type 0) (step : S → Out
   pub shows : Shows (Goes s)
   pub told : Told now middle
   pub counted : HasCounted old now done
-  pub continues : (n : ℕ) (later : List Transfer) (after : Bytes) (e : End) → HasRun step s n later middle after e → HasRun step start (made + n) (done ++ later) before after e
+  pub continues : (n : ℕ) (later : List Transfer) (after : Bytes) (asked : List ListedCall) (e : End) → HasReport step s n later middle after asked e → HasReport step start (made + n) (done ++ later) before after asked e
 
 none_made : (n : ℕ) → 0 + n ≡ n
 none_made n = omega arith
@@ -119,10 +154,10 @@ reached_start Shows step start old before shows told = record {
   shows = shows;
   told = told;
   counted = nothing_counted old;
-  continues = λ n later after e run. rw (none_made n) run;
+  continues = λ n later after asked e r. rw (none_made n) r;
 }
 
-one_more : (made n : ℕ) → made + 1 + n ≡ made + (n + 1)
+one_more : (made n : ℕ) → made + 1 + n ≡ made + suc n
 one_more made n = omega arith
 
 pub reached_more : {S : Type 0} (Shows Later : Outcome S → Type 0) (step : S → Outcome S) (start : S) (made : ℕ) (old now new : Streams) (before : Bytes) → (r : Reached Shows step start made old now before) → StepMade Later step r.s now new r.middle → Reached Later step start (made + 1) old new before
@@ -133,40 +168,46 @@ reached_more Shows Later step start made old now new before r m = record {
   shows = m.shows;
   told = m.told;
   counted = counted_on old now new r.done m.transfers r.counted m.counted;
-  continues = λ n later after e run. rw (append_assoc r.done m.transfers later, one_more made n) (r.continues (n + 1) (m.transfers ++ later) after e (m.continues n later after e run));
+  continues = λ n later after asked e rest.
+      rw (append_assoc r.done m.transfers later, one_more made n)
+      (r.continues (suc n) (m.transfers ++ later) after asked e
+      (run_made step r.s m.next n m.transfers later r.middle m.after after asked e (step r.s) refl m.made rest));
 }
 
-pub attended_over : {S : Type 0} (Shows : Outcome S → Type 0) (step : S → Outcome S) (start : S) (steps made n : ℕ) (old now new : Streams) (before : Bytes) (e : End) → steps ≡ made + (n + 1) → (r : Reached Shows step start made old now before) → IsOver step r.s e now new r.middle → Attended step start steps old new before e
+pub attended_over : {S : Type 0} (Shows : Outcome S → Type 0) (step : S → Outcome S) (start : S) (steps made n : ℕ) (old now new : Streams) (before : Bytes) (e : End) → steps ≡ made + suc n → (r : Reached Shows step start made old now before) → IsOver step r.s e now new r.middle → Attended step start steps old new before e
 attended_over Shows step start steps made n old now new before e all r o = record {
   transfers = r.done ++ [];
   after = r.middle;
-  runs = rw all (r.continues (n + 1) [] r.middle e (rw (add-one n) (run_ends step r.s n r.middle e o.ends)));
+  runs = rw all (has_run step start (made + suc n) (r.done ++ []) before r.middle e (r.continues (suc n) [] r.middle [] e (run_ends step r.s n r.middle e o.ends)));
   told = o.told;
   counted = counted_on old now new r.done [] r.counted o.counted;
 }
 
-pub attended_running : {S : Type 0} (Shows : Outcome S → Type 0) (step : S → Outcome S) (start : S) (made : ℕ) (old now : Streams) (before : Bytes)
-    → Reached Shows step start made old now before → Attended step start made old now before Running
-attended_running Shows step start made old now before r = record {
+pub attended_running : {S : Type 0} (Shows : Outcome S → Type 0) (step : S → Outcome S) (start : S) (steps made : ℕ) (old now : Streams) (before : Bytes)
+    → steps ≡ made + 0 → Reached Shows step start made old now before → Attended step start steps old now before Running
+attended_running Shows step start steps made old now before all r = record {
   transfers = r.done ++ [];
   after = r.middle;
-  runs = subst (λ (k : ℕ). HasRun step start k (r.done ++ []) before r.middle Running) (add-zero made) (r.continues 0 [] r.middle Running (run_none step r.s r.middle));
+  runs = rw all (has_run step start (made + 0) (r.done ++ []) before r.middle Running (r.continues 0 [] r.middle [] Running (run_none step r.s r.middle)));
   told = r.told;
   counted = counted_on old now now r.done [] r.counted (nothing_counted now);
 }
 
 -- memory ran out in the step behind these
 pub attended_partly : {S : Type 0} (Shows : Outcome S → Type 0) (step : S → Outcome S) (start : S) (steps made : ℕ) (old now new : Streams) (before : Bytes)
-    → made ≤ steps → Reached Shows step start made old now before → ((middle : Bytes) → Told now middle → TakenInVain now new middle) → AttendedPartly step start steps old new before
-unfolding attended_running
-attended_partly Shows step start steps made old now new before within r taken = record {
-  made = made;
-  within = within;
-  ending = Running;
-  middle = now;
-  attended = attended_running Shows step start made old now before r;
-  taken = taken r.middle r.told;
-}
+    → made + 1 ≤ steps → (r : Reached Shows step start made old now before) → StepInVain step r.s now new r.middle → AttendedPartly step start steps old new before
+attended_partly Shows step start steps made old now new before within r t =
+    let report = r.continues 1 [] r.middle (t.call ∷ []) Dry (run_waits step r.s 0 r.middle t.call t.next t.asks) in
+    record {
+      transfers = r.done ++ [];
+      after = r.middle;
+      count = t.taken.count;
+      asks = rw (sym t.taken.is_read) (record { made = made + 1; within = within; answers = report.answers; calls = report.calls; attended = report.attended; report = report.report });
+      taken = t.taken.taken;
+      some = t.taken.some;
+      told = t.taken.told;
+      counted = counted_on old now new r.done [] r.counted t.taken.counted;
+    }
 
 none_is_some : (e : End) → None ≡ Some e → ⊥
 none_is_some e is = grind arith

@@ -1,5 +1,5 @@
 -- Bytes that are taken piece by piece.
-use Rattle.std.proofs.Common.{◌≡◌, ◌≤◌, ℕ, List, [], ◌++◌, length, take, drop, Option, Some, None, refl, sym, ap, ◌∙◌, arith, append_assoc}
+use Rattle.std.proofs.Common.{◌≡◌, ◌≤◌, ◌+◌, ℕ, List, [], ◌++◌, length, take, drop, Option, Some, None, refl, sym, ap, ◌∙◌, arith, append_assoc}
 use Rattle.std.proofs.Math.Seq.{drop-append_seam, take-append_seam}
 use Rattle.std.proofs.lemmas.List.{length-take, length-drop, length-append, take-append-drop, take-append-le, take_all}
 use Rattle.std.specs.Io.KnownBytes.{Consumes, IsAtEnd, Keeps}
@@ -67,7 +67,9 @@ taken_to_end now later left bytes into count n le h none consumed end =
     (h.first ∙ take_all (length bytes) left (omega (arith, all)) ∙ sym (take_all count left (omega (arith, all, le))), e ∙ ap Some (sym parts))
 
 -- a piece was taken that found no memory
-pub taken_in_vain : (now later : Option (List ℕ)) (left bytes into : List ℕ) (n faults faults' : ℕ) → faults ≤ faults' → HasSoFar now left bytes → Consumes now later (take n into) → TakesInVain left later faults faults'
-taken_in_vain now later left bytes into n faults faults' le h consumed =
+pub taken_in_vain : (now later : Option (List ℕ)) (left bytes into : List ℕ) (count n faults faults' : ℕ) → length bytes + n ≤ count → faults ≤ faults' → HasSoFar now left bytes → Consumes now later (take n into) → TakesInVain count left later faults faults'
+taken_in_vain now later left bytes into count n faults faults' few le h consumed =
     let more = more_taken now later left bytes (take n into) h consumed in
-    record { taken = length (bytes ++ take n into); left_is = more.rest; later = le }
+    let whole = length-append bytes (take n into) in
+    let piece = length-take n into in
+    record { taken = length (bytes ++ take n into); some = omega (arith, more.some, whole, piece, few, length-take count left); left_is = more.rest; later = le }

@@ -6,8 +6,8 @@ use Rattle.word_kit.specs.Words.{one_if}
 use Rattle.outside.specs.Causes.{Rose}
 use Rattle.runs.specs.Machine.{Outcome, Goes, Asks, Ends, run, reported}
 use Rattle.runner.specs.Answers.{Stream, Input, Output, Errors, Bytes, Extent, Full, Faulted, Transfer, faults_on, is_same, is_faulted, IsAnswered, IsAnsweredOn, IsTransferred, AreAnswered, AreWhole, HasWholeRun, stream_of}
-use Rattle.runner.proofs.Runs.{add_faults, nothing_counted}
-use Rattle.runner.specs.Attending.{Streams, RoseBy, HasCounted, Attended, AttendedPartly}
+use Rattle.runner.proofs.Runs.{add_faults}
+use Rattle.runner.specs.Attending.{Streams, RoseBy, HasCounted}
 
 whole_first : (xs ys : List Transfer) → AreWhole (xs ++ ys) → AreWhole xs
 unfolding AreWhole
@@ -120,14 +120,3 @@ whole_if_none (t ∷ ts) i o e =
 -- where no count rose no stream failed
 pub whole_if_calm : (old new : Streams) (ts : List Transfer) → HasCounted old new ts → (Rose old.input_faults new.input_faults → ⊥) → (Rose old.output_faults new.output_faults → ⊥) → (Rose old.errors_faults new.errors_faults → ⊥) → AreWhole ts
 whole_if_calm old new ts counted i o e = whole_if_none ts (none_of _ _ _ counted.input i) (none_of _ _ _ counted.output o) (none_of _ _ _ counted.errors e)
-
--- a run that ended, with no byte taken in vain
-pub attended_wholly : {S : Type 0} (step : S → Outcome S) (start : S) (steps : ℕ) (old new : Streams) (before : Bytes) (e : End) → Attended step start steps old new before e → AttendedPartly step start steps old new before
-attended_wholly step start steps old new before e a = record {
-  made = steps;
-  within = omega arith;
-  ending = e;
-  middle = new;
-  attended = a;
-  taken = record { taken = 0; told = record { left = a.told.left; output = a.told.output; errors = a.told.errors }; counted = nothing_counted new };
-}

@@ -2,6 +2,7 @@
 -- the output or the errors, and every other call by a number alone. This project's own.
 use Rattle.std.specs.Prelude.{◌≡◌, ◌≤◌, ◌&&◌, ⊤, ℕ, Bool, true, false, cond, eqb, leb, List, [], ◌∷◌, ◌++◌, length, take, drop, count_by, Option, None, Some}
 use Rattle.space.specs.declared.call.End.{End}
+use Rattle.space.specs.declared.call.End.TheVariants.{Dry}
 use Rattle.space.specs.Reports.{ListedCall, Read, Write, Close, AnswerValue, Got, Took, Error}
 use Rattle.runs.specs.Machine.{Outcome, run}
 
@@ -111,6 +112,15 @@ pub record HasRun {S : Type 0} (step : S → Outcome S) (start : S) (steps : ℕ
   pub answers : List AnswerValue
   pub attended : AreAnswered (run step steps answers start).calls answers transfers before after
   pub ends : (run step steps answers start).ending ≡ ending
+
+-- Within so many steps the run, its calls answered so, asks for one more: with no answer left to it it is dry.
+pub record AsksNext {S : Type 0} (step : S → Outcome S) (start : S) (steps : ℕ) (transfers : List Transfer) (before after : Bytes) (call : ListedCall) : Type 0 where
+  pub made : ℕ
+  pub within : made ≤ steps
+  pub answers : List AnswerValue
+  pub calls : List ListedCall
+  pub attended : AreAnswered calls answers transfers before after
+  pub report : run step made answers start ≡ record { calls = calls ++ call ∷ []; ending = Dry }
 
 -- no stream failed
 unfoldable pub AreWhole : List Transfer → Type 0

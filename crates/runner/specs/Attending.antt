@@ -1,12 +1,12 @@
 -- What a run that is attended does to the streams.
 use Rattle.std.specs.Prelude.{◌≡◌, ◌≤◌, ◌+◌, ◌-◌, ◌^◌, min, ◌⊎◌, ◌++◌, ℕ, List, [], length, take, drop, Option, Some, None}
 use Rattle.space.specs.declared.call.End.{End}
-use Rattle.space.specs.Reports.{ListedCall, AnswerValue, Got, Took, Error}
-use Rattle.runs.specs.Machine.{Outcome, Goes, Ends}
+use Rattle.space.specs.Reports.{ListedCall, Read, AnswerValue, Got, Took, Error}
+use Rattle.runs.specs.Machine.{Outcome, Goes, Asks, Ends}
 use Rattle.outside.specs.Causes.{Rose}
 use Rattle.runner.specs.declared.transfers.Taken.{Taken}
 use Rattle.runner.specs.declared.transfers.Taken.TheVariants as taken
-use Rattle.runner.specs.Answers.{Input, Output, Errors, Bytes, Transfer, faults_on, IsAnswered, HasRun}
+use Rattle.runner.specs.Answers.{Input, Output, Errors, Bytes, Transfer, faults_on, IsAnswered, HasRun, AsksNext}
 
 -- the streams by what they tell of themselves: what is left or was put, and how often each has failed
 pub record Streams : Type 0 where
@@ -63,19 +63,24 @@ pub record Attended {S : Type 0} (step : S → Outcome S) (start : S) (steps : �
   pub counted : HasCounted old new transfers
 
 -- bytes were taken for a read, and memory ran out before it was answered
-pub record TakenInVain (old new : Streams) (before : Bytes) : Type 0 where
+pub record TakenInVain (call : ListedCall) (old new : Streams) (before : Bytes) : Type 0 where
+  pub count : ℕ
+  pub is_read : call ≡ Read 0 count
   pub taken : ℕ
+  pub some : taken ≤ length (take count before.left)
   pub told : Told new (record before { left = drop taken before.left })
   pub counted : HasCounted old new []
 
--- some of these steps were made, and then bytes may have been taken in vain
+-- within so many steps the run asked for a read of the input, for which some bytes were taken in vain
 pub record AttendedPartly {S : Type 0} (step : S → Outcome S) (start : S) (steps : ℕ) (old new : Streams) (before : Bytes) : Type 0 where
-  pub made : ℕ
-  pub within : made ≤ steps
-  pub ending : End
-  pub middle : Streams
-  pub attended : Attended step start made old middle before ending
-  pub taken : TakenInVain middle new attended.after
+  pub transfers : List Transfer
+  pub after : Bytes
+  pub count : ℕ
+  pub asks : AsksNext step start steps transfers before after (Read 0 count)
+  pub taken : ℕ
+  pub some : taken ≤ length (take count after.left)
+  pub told : Told new (record after { left = drop taken after.left })
+  pub counted : HasCounted old new transfers
 
 -- one call was answered: the run goes on from where this answer leads
 pub record CallAnswered {S : Type 0} (Shows : Outcome S → Type 0) (call : ListedCall) (next : AnswerValue → S) (old new : Streams) (before : Bytes) : Type 0 where
@@ -98,8 +103,9 @@ pub record TakesPartly (now : Option (List ℕ)) (left : List ℕ) (count : ℕ)
   pub left_is : Takes now left taken
 
 -- some bytes were taken, and memory ran out
-pub record TakesInVain (left : List ℕ) (now : Option (List ℕ)) (faults faults' : ℕ) : Type 0 where
+pub record TakesInVain (count : ℕ) (left : List ℕ) (now : Option (List ℕ)) (faults faults' : ℕ) : Type 0 where
   pub taken : ℕ
+  pub some : taken ≤ length (take count left)
   pub left_is : Takes now left taken
   pub later : faults ≤ faults'
 
@@ -143,15 +149,28 @@ pub record WriteFailed {S : Type 0} (Shows : Outcome S → Type 0) (next : Answe
 abbrev pub WriteAnswered : {S : Type 0} → (Outcome S → Type 0) → (AnswerValue → S) → List ℕ → List ℕ → Option (List ℕ) → ℕ → ℕ → Type 0
 WriteAnswered Shows next bytes shown now faults faults' = WriteWhole Shows next bytes shown now faults faults' ⊎ WriteFailed Shows next bytes shown now faults faults'
 
--- a step was made to another state, and what follows from there is the rest of the run
+-- what a step came to that was made: it went on, or its call was answered
+abbrev pub IsMade : {S : Type 0} → Outcome S → List Transfer → Bytes → Bytes → S → Type 0
+IsMade (Goes t) transfers before after next = (next ≡ t) × (transfers ≡ []) × (after ≡ before)
+IsMade (Asks call f) transfers before after next = (answer : AnswerValue) × (next ≡ f answer) × IsAnswered call answer transfers before after
+IsMade (Ends e) transfers before after next = ⊥
+
+-- a step was made to another state
 pub record StepMade {S : Type 0} (Shows : Outcome S → Type 0) (step : S → Outcome S) (s : S) (old new : Streams) (before : Bytes) : Type 0 where
   pub next : S
   pub transfers : List Transfer
   pub after : Bytes
+  pub made : IsMade (step s) transfers before after next
   pub shows : Shows (Goes next)
   pub told : Told new after
   pub counted : HasCounted old new transfers
-  pub continues : (n : ℕ) (later : List Transfer) (last : Bytes) (e : End) → HasRun step next n later after last e → HasRun step s (n + 1) (transfers ++ later) before last e
+
+-- a step asked for a call for which bytes were taken in vain
+pub record StepInVain {S : Type 0} (step : S → Outcome S) (s : S) (old new : Streams) (before : Bytes) : Type 0 where
+  pub call : ListedCall
+  pub next : AnswerValue → S
+  pub asks : step s ≡ Asks call next
+  pub taken : TakenInVain call old new before
 
 -- the run is over
 pub record IsOver {S : Type 0} (step : S → Outcome S) (s : S) (e : End) (old new : Streams) (before : Bytes) : Type 0 where

@@ -40,9 +40,10 @@ pub fn attend<M: Machine, I: Source, O: Sink, E: Sink>(
         → CallAnswered (M.shows machine.new step) listed next
         (streams_by I.left I.faults O.shown O.faults E.shown E.faults input.old output.old errors.old)
         (streams_by I.left I.faults O.shown O.faults E.shown E.faults input.new output.new errors.new) before) }
-    ensures in_vain { OnErr result ((before : Bytes)
+    ensures in_vain { OnErr result ((step : M.State → Outcome M.State) (listed : ListedCall) (next : AnswerValue → M.State) (before : Bytes)
+        → M.shows machine.old step (Asks listed next) → Describes (M.memory machine.old) call listed
         → Told (streams_by I.left I.faults O.shown O.faults E.shown E.faults input.old output.old errors.old) before
-        → TakenInVain (streams_by I.left I.faults O.shown O.faults E.shown E.faults input.old output.old errors.old)
+        → TakenInVain listed (streams_by I.left I.faults O.shown O.faults E.shown E.faults input.old output.old errors.old)
         (streams_by I.left I.faults O.shown O.faults E.shown E.faults input.new output.new errors.new) before) }
     ensures later { E.faults errors.old ≤ E.faults errors.new }
 {
@@ -70,7 +71,7 @@ fn attend_read<M: Machine, I: Source>(
         → CallAnswered (M.shows machine.new step) (Read call.fd call.count) next
         (with_input I.left I.faults s input.old) (with_input I.left I.faults s input.new) before) }
     ensures in_vain { OnErr result ((s : Streams) (before : Bytes) → Told (with_input I.left I.faults s input.old) before
-        → TakenInVain (with_input I.left I.faults s input.old) (with_input I.left I.faults s input.new) before) }
+        → TakenInVain (Read call.fd call.count) (with_input I.left I.faults s input.old) (with_input I.left I.faults s input.new) before) }
 {
     if call.fd == 0 {
         read(alloc, machine, call.count, input)?;
@@ -135,7 +136,7 @@ fn read<M: Machine, I: Source>(
         → M.shows machine.old step (Asks listed next) → I.left input.old ≡ Some left
         → ReadAnswered (M.shows machine.new step) next count left (I.left input.new) (I.faults input.old) (I.faults input.new)) }
     ensures in_vain { OnErr result ((left : List ℕ) → I.left input.old ≡ Some left
-        → TakesInVain left (I.left input.new) (I.faults input.old) (I.faults input.new)) }
+        → TakesInVain count left (I.left input.new) (I.faults input.old) (I.faults input.new)) }
 {
     match take_up_to(alloc, input, count as usize)? {
         Taken::Bytes(bytes) => machine.answer(Answer::Got(bytes.as_slice())),

@@ -4,7 +4,7 @@ ghost use Rattle.std.specs.Prelude.{◌≡◌, ◌≢◌, ◌≤◌, false, None
 ghost use Rattle.runs.specs.Machine.{Outcome, Goes};
 ghost use Rattle.runner.specs.Answers.{Bytes};
 ghost use Rattle.runner.specs.Stepping.{GoesOn};
-ghost use Rattle.runner.specs.Attending.{streams_by, Told, Steps, TakenInVain, Attended, AttendedPartly};
+ghost use Rattle.runner.specs.Attending.{streams_by, Told, Steps, StepInVain, Attended, AttendedPartly};
 
 use crate::calls::attend;
 use crate::machine::Machine;
@@ -68,9 +68,10 @@ fn make_step<M: Machine, I: Source, O: Sink, E: Sink>(
         → Steps (M.shows machine.new step) step s
         (streams_by I.left I.faults O.shown O.faults E.shown E.faults input.old output.old errors.old)
         (streams_by I.left I.faults O.shown O.faults E.shown E.faults input.new output.new errors.new) before ended) }
-    ensures in_vain { OnErr result ((before : Bytes)
+    ensures in_vain { OnErr result ((step : M.State → Outcome M.State) (s : M.State) (before : Bytes)
+        → M.shows machine.old step (Goes s)
         → Told (streams_by I.left I.faults O.shown O.faults E.shown E.faults input.old output.old errors.old) before
-        → TakenInVain (streams_by I.left I.faults O.shown O.faults E.shown E.faults input.old output.old errors.old)
+        → StepInVain step s (streams_by I.left I.faults O.shown O.faults E.shown E.faults input.old output.old errors.old)
         (streams_by I.left I.faults O.shown O.faults E.shown E.faults input.new output.new errors.new) before) }
     ensures later { E.faults errors.old ≤ E.faults errors.new }
 {

@@ -30,7 +30,7 @@ pub fn take_up_to<I: Source>(alloc: Global, input: &mut I, count: usize) -> Resu
         → HasTaken taken (I.left input.new) left count) }
     ensures cause { IfOk result (λ taken. HasTakeCause (I.faults input.old) (I.faults input.new) taken) }
     ensures in_vain { OnErr result ((left : List ℕ) → I.left input.old ≡ Some left
-        → TakesInVain left (I.left input.new) (I.faults input.old) (I.faults input.new)) }
+        → TakesInVain count left (I.left input.new) (I.faults input.old) (I.faults input.new)) }
 {
     let mut bytes = Vec::new(alloc);
     let mut piece = [0; PIECE];

@@ -1,25 +1,15 @@
 -- Want of memory may stand in place of every cause but that of the words.
-use Rattle.std.proofs.Common.{◌≢◌, ◌⊎◌, inl, inr, ℕ, List, [], length, Option, subst, sym, arith}
+use Rattle.std.proofs.Common.{◌≢◌, ◌⊎◌, inl, inr, ℕ, List, length, Option, subst, sym, arith}
 use Rattle.std.proofs.Math.Seq.{take-length}
 use Rattle.std.specs.Io.KnownBytes.{Appends}
 use Rattle.outside.specs.Streams.{AppendsPrefix}
-use Rattle.space.specs.declared.program.Kind.{Kind}
-use Rattle.space.specs.declared.program.Kind.TheVariants.{PowerPc, Ia32}
-use Rattle.space.specs.declared.program.Program.{Program}
-use Rattle.space.specs.declared.call.End.{End}
 use Rattle.space.specs.declared.call.End.TheVariants as ending
-use Rattle.ppc_isa.specs.declared.instr.Instr.{Instr}
-use Rattle.machines.specs.Readings.{Fetched}
-use Rattle.machines.specs.Guest.{guest_machine, guest_start}
-use Rattle.machines.specs.Host.{host_machine, host_start}
-use Rattle.runner.specs.Answers.{Bytes}
 use Rattle.runner.specs.Attending.{Streams}
-use Rattle.runner.proofs.Whole.{attended_wholly}
 use Rattle.trans_tool.specs.Lines.{IsTold}
 use Rattle.trans_tool.specs.Seen.{Outside, Stream, InputStands, StreamStands, output_in}
 use Rattle.trans_tool.specs.Translate.{Ends}
 use Rattle.trans_tool.specs.Listing.{EndsListing}
-use Rattle.trans_tool.specs.Running.{AttendedOn, PartlyOn, RanTo, RanPartly, EndsRun}
+use Rattle.trans_tool.specs.Running.{EndsRun}
 use Rattle.trans_tool.specs.Top.{Comes, Runs}
 use Rattle.trans_tool.specs.declared.cause.Cause.{Cause}
 use Rattle.trans_tool.specs.declared.cause.Cause.TheVariants.{Done, GuestExit, Usage, BadElf, TooLong, FileRead, FileWrite, OutFault, ErrFault, Memory, StepsSpent, Trap, Illegal, DivideFault, Unbuilt}
@@ -64,24 +54,13 @@ listing-memory o out file Illegal h = absurd h
 listing-memory o out file cause.Outside h = absurd h
 listing-memory o out file DivideFault h = absurd h
 
-partly : (kind : Kind) (words : ℕ → Option Instr) (ops : List ℕ → Option Fetched) (program : Program) (steps : ℕ) (old new : Streams) (before : Bytes) (end : End) → AttendedOn kind words ops program steps old new before end → PartlyOn kind words ops program steps old new before
-partly PowerPc words ops program steps old new before end a = attended_wholly (guest_machine words program) (guest_start program) steps old new before end a
-partly Ia32 words ops program steps old new before end a = attended_wholly (host_machine ops program) (host_start program []) steps old new before end a
-
-ran-partly : (o : Outside) (file : List ℕ) (steps : ℕ) (old new : Streams) (end : End) → RanTo o file steps old new end → RanPartly o file steps old new
-ran-partly o file steps old new end r = record {
-  program = r.program;
-  loaded = r.loaded;
-  ran = λ words ops before reads reads' told. partly r.program.kind words ops r.program steps old new before end (r.ran words ops before reads reads' told);
-}
-
 run-memory : (o : Outside) (file : List ℕ) (steps : ℕ) (old new : Streams) (cause : Cause) → EndsRun o file steps old new cause → EndsRun o file steps old new Memory
-run-memory o file steps old new (GuestExit number) h = inr (ran-partly o file steps old new (ending.Exit number) h)
-run-memory o file steps old new StepsSpent h = inr (ran-partly o file steps old new ending.Running h)
-run-memory o file steps old new Trap h = inr (ran-partly o file steps old new ending.Trap h)
-run-memory o file steps old new Illegal h = inr (ran-partly o file steps old new ending.Illegal h)
-run-memory o file steps old new cause.Outside h = inr (ran-partly o file steps old new ending.Outside h)
-run-memory o file steps old new DivideFault h = inr (ran-partly o file steps old new ending.DivideFault h)
+run-memory o file steps old new (GuestExit number) h = inr (inr (ending.Exit number, h))
+run-memory o file steps old new StepsSpent h = inr (inr (ending.Running, h))
+run-memory o file steps old new Trap h = inr (inr (ending.Trap, h))
+run-memory o file steps old new Illegal h = inr (inr (ending.Illegal, h))
+run-memory o file steps old new cause.Outside h = inr (inr (ending.Outside, h))
+run-memory o file steps old new DivideFault h = inr (inr (ending.DivideFault, h))
 run-memory o file steps old new (FileRead number) h = inl h.2
 run-memory o file steps old new (TooLong number) h = inl h.2
 run-memory o file steps old new (BadElf rule offset) h = inl h.1

@@ -23,7 +23,7 @@ abbrev pub AttendedOn : Kind → (ℕ → Option Instr) → (List ℕ → Option
 AttendedOn PowerPc words ops program steps old new before end = Attended (guest_machine words program) (guest_start program) steps old new before end
 AttendedOn Ia32 words ops program steps old new before end = Attended (host_machine ops program) (host_start program []) steps old new before end
 
--- the same for a run that made some of these steps, and may have taken bytes in vain
+-- the same for a run that asked for a read within these steps, for which bytes were taken in vain
 abbrev pub PartlyOn : Kind → (ℕ → Option Instr) → (List ℕ → Option Fetched) → Program → ℕ → Streams → Streams → Bytes → Type 0
 PartlyOn PowerPc words ops program steps old new before = AttendedPartly (guest_machine words program) (guest_start program) steps old new before
 PartlyOn Ia32 words ops program steps old new before = AttendedPartly (host_machine ops program) (host_start program []) steps old new before
@@ -35,7 +35,7 @@ HasRunTo program steps old new end =
     (words : ℕ → Option Instr) (ops : List ℕ → Option Fetched) (before : Bytes) → ReadsWords words → ReadsOps ops
     → Told old before → AttendedOn program.kind words ops program steps old new before end
 
--- the program's run made some of these steps
+-- the program's run asked for a read within these steps, and no more was made of it
 abbrev pub HasRunPartly : Program → ℕ → Streams → Streams → Type 0
 HasRunPartly program steps old new =
     (words : ℕ → Option Instr) (ops : List ℕ → Option Fetched) (before : Bytes) → ReadsWords words → ReadsOps ops
@@ -51,13 +51,14 @@ pub record RanTo (o : Outside) (file : List ℕ) (steps : ℕ) (old new : Stream
   pub loaded : IsLoaded o file program
   pub ran : HasRunTo program steps old new end
 
--- FILE held a program whose run made some of these steps
+-- FILE held a program whose run asked for a read within these steps, and no more was made of it
 pub record RanPartly (o : Outside) (file : List ℕ) (steps : ℕ) (old new : Streams) : Type 0 where
   pub program : Program
   pub loaded : IsLoaded o file program
   pub ran : HasRunPartly program steps old new
 
--- What each cause of the command says. Where memory runs out some of the steps may have been made.
+-- What each cause of the command says. Memory runs out before the first step, in a read, or for the line of a run that
+-- ended.
 abbrev pub EndsRun : Outside → List ℕ → ℕ → Streams → Streams → Cause → Type 0
 EndsRun o file steps old new (cause.GuestExit number) = RanTo o file steps old new (ending.Exit number)
 EndsRun o file steps old new cause.StepsSpent = RanTo o file steps old new ending.Running
@@ -65,7 +66,7 @@ EndsRun o file steps old new cause.Trap = RanTo o file steps old new ending.Trap
 EndsRun o file steps old new cause.Illegal = RanTo o file steps old new ending.Illegal
 EndsRun o file steps old new cause.Outside = RanTo o file steps old new ending.Outside
 EndsRun o file steps old new cause.DivideFault = RanTo o file steps old new ending.DivideFault
-EndsRun o file steps old new cause.Memory = StreamsStand old new ⊎ RanPartly o file steps old new
+EndsRun o file steps old new cause.Memory = StreamsStand old new ⊎ RanPartly o file steps old new ⊎ ((end : End) × RanTo o file steps old new end)
 EndsRun o file steps old new c = EndsUnread o file (StreamsStand old new) c
 
 -- the cause of a run that ends so; none ends dry, since every call is answered

@@ -16,5 +16,6 @@ returns-in-Write-clause-answered g c = λ step listed next before shows describe
     rw e (c.attend_write.ensures.answered step w.bytes next (streams_by g.I.Source.left g.I.Source.faults g.O.Sink.shown g.O.Sink.faults g.E.Sink.shown g.E.Sink.faults c.args.input.now c.args.output.now c.args.errors.now) before (rw (sym e) shows) w.count w.stand told)
 
 pub returns-in_err-attend_read-in-Read-clause-in_vain : goal.returns-in_err-attend_read-in-Read-clause-in_vain
-returns-in_err-attend_read-in-Read-clause-in_vain g c = if_err c.from_residual.result _
-    (c.in_err-attend_read-in-Read.ensures.in_vain (streams_by g.I.Source.left g.I.Source.faults g.O.Sink.shown g.O.Sink.faults g.E.Sink.shown g.E.Sink.faults c.args.input.now c.args.output.now c.args.errors.now))
+returns-in_err-attend_read-in-Read-clause-in_vain g c = if_err c.from_residual.result _ (λ step listed next before shows describes told.
+    rw (listed_read (g.M.Machine.memory c.args.machine.now) c.args.call listed c.in-Read.is describes)
+    (c.in_err-attend_read-in-Read.ensures.in_vain (streams_by g.I.Source.left g.I.Source.faults g.O.Sink.shown g.O.Sink.faults g.E.Sink.shown g.E.Sink.faults c.args.input.now c.args.output.now c.args.errors.now) before told))

@@ -11,7 +11,7 @@ returns-in_ok-read-clause-answered g c = λ step next s before shows told.
 
 pub returns-in_err-read-clause-in_vain : goal.returns-in_err-read-clause-in_vain
 returns-in_err-read-clause-in_vain g c = if_err c.from_residual.result _ (λ s before told.
-    taken_in_vain (with_input g.I.Source.left g.I.Source.faults s c.args.input.now) before told _ _ (c.in_err-read.ensures.in_vain before.left told.left))
+    taken_in_vain (with_input g.I.Source.left g.I.Source.faults s c.args.input.now) before told c.args.call.fd c.args.call.count c.if-call-eq0.true _ _ (c.in_err-read.ensures.in_vain before.left told.left))
 
 pub returns-else-call-eq0-clause-answered : goal.returns-else-call-eq0-clause-answered
 returns-else-call-eq0-clause-answered g c = λ step next s before shows told.

@@ -1,7 +1,8 @@
 use Rattle.std.proofs.Common.{refl}
 use Rattle.runs.specs.Machine.{Goes}
 use Rattle.runner.specs.Attending.{streams_by}
-use Rattle.runner.proofs.Runs.{went, asked, over, went_on, resumed, never_dry}
+use Rattle.runner.proofs.Runs.{went, asked, waits, over, went_on, resumed, never_dry}
+use Rattle.runner.proofs.Answering.{if_err}
 use Rattle.runner.proofs.running.make_step.Goals as goal
 
 pub returns-in-Went-clause-made : goal.returns-in-Went-clause-made
@@ -37,3 +38,9 @@ pub returns-in-Ended-clause-answered : goal.returns-in-Ended-clause-answered
 returns-in-Ended-clause-answered g c =
     let made = c.in-Ended.ensures.steps c.requires.stands.0 (Goes c.requires.stands.1) c.requires.stands.2 in
     never_dry (g.M.Machine.memory c.step.new.self) c.in-Ended.end _ made.1
+
+pub returns-in_err-attend-in-Asked-clause-in_vain : goal.returns-in_err-attend-in-Asked-clause-in_vain
+returns-in_err-attend-in-Asked-clause-in_vain g c = if_err c.from_residual.result _ (λ step s before shows told.
+    let made = c.in-Asked.ensures.steps step (Goes s) shows in
+    waits (g.M.Machine.shows c.attend.new.machine step) step s (g.M.Machine.shows c.step.new.self step) (g.M.Machine.memory c.step.new.self) c.in-Asked.call (streams_by g.I.Source.left g.I.Source.faults g.O.Sink.shown g.O.Sink.faults g.E.Sink.shown g.E.Sink.faults c.args.input.now c.args.output.now c.args.errors.now) _ before (step s) refl made.0 made.1
+    (λ listed next waiting describes. c.in_err-attend-in-Asked.ensures.in_vain step listed next before waiting describes told))

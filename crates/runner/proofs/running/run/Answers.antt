@@ -1,4 +1,4 @@
-use Rattle.std.proofs.Common.{arith, ◌≡◌, sym, ◌-◌, ◌+◌}
+use Rattle.std.proofs.Common.{arith, ◌-◌, ◌+◌}
 use Rattle.runner.proofs.Runs.{reached_start, reached_more, attended_over, attended_running, attended_partly, step_over, step_on}
 use Rattle.runner.proofs.Answering.{if_err}
 use Rattle.runner.proofs.running.run.Goals as goal
@@ -30,9 +30,9 @@ loop-preserved g c = record {
 
 pub returns-clause-attended : goal.returns-clause-attended
 returns-clause-attended g c = λ step start before shows told.
-    let all : c.loop.counter ≡ c.args.steps = omega (arith, c.loop-test.false) in
-    rw (sym all) (attended_running (g.M.Machine.shows c.loop.machine step) step start c.loop.counter _ _ before (c.loop.invariant.reached step start before shows told))
+    attended_running (g.M.Machine.shows c.loop.machine step) step start c.args.steps c.loop.counter _ _ before (omega (arith, c.loop-test.false)) (c.loop.invariant.reached step start before shows told)
 
 pub returns-in_err-end-clause-partly : goal.returns-in_err-end-clause-partly
 returns-in_err-end-clause-partly g c = if_err c.from_residual.result _ (λ step start before shows told.
-    attended_partly (g.M.Machine.shows c.loop.machine step) step start c.args.steps c.loop.counter _ _ _ before (omega (arith, c.loop-test.true)) (c.loop.invariant.reached step start before shows told) c.in_err-end.ensures.in_vain)
+    let r = c.loop.invariant.reached step start before shows told in
+    attended_partly (g.M.Machine.shows c.loop.machine step) step start c.args.steps c.loop.counter _ _ _ before (omega (arith, c.loop-test.true)) r (c.in_err-end.ensures.in_vain step r.s r.middle r.shows r.told))

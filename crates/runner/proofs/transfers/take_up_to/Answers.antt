@@ -31,4 +31,4 @@ returns-clause-taken g c = λ left e.
 
 pub returns-in_err-extend_from_slice-in-Ok-clause-in_vain : goal.returns-in_err-extend_from_slice-in-Ok-clause-in_vain
 returns-in_err-extend_from_slice-in-Ok-clause-in_vain g c = if_err c.from_residual.result _ (λ left e.
-    taken_in_vain _ _ left c.loop-piece.bytes.items c.take.new.into c.in-Ok.moved _ _ (grind (arith, common_steps)) (c.loop-piece.invariant.taken left e) (c.in-Ok.ensures.bytes).0)
+    taken_in_vain _ _ left c.loop-piece.bytes.items c.take.new.into c.args.count c.in-Ok.moved _ _ (grind (arith, common_steps)) (grind (arith, common_steps)) (c.loop-piece.invariant.taken left e) (c.in-Ok.ensures.bytes).0)

@@ -1,4 +1,4 @@
-use Rattle.std.proofs.Common.{inr}
+use Rattle.std.proofs.Common.{inl, inr}
 use Rattle.trans_tool.proofs.Ran.{ended_so}
 use Rattle.trans_tool.proofs.run.run.Goals as goal
 
@@ -11,8 +11,8 @@ returns-in-Ok-run_program-clause-ends g c =
     }))
 
 pub returns-in-Err-run_program-clause-ends : goal.returns-in-Err-run_program-clause-ends
-returns-in-Err-run_program-clause-ends g c = inr (record {
+returns-in-Err-run_program-clause-ends g c = inr (inl (record {
   program = c.in-Ok.program;
   loaded = c.in-Ok.ensures.loaded;
   ran = c.in-Err-run_program.ensures.partly;
-})
+}))
