@@ -92,17 +92,17 @@ pub record CallAnswered {S : Type 0} (Shows : Outcome S → Type 0) (call : List
   pub told : Told new after
   pub counted : HasCounted old new transfers
 
--- all the bytes that were wanted were taken, or a fault came behind some of them
+-- so many of the bytes that were left were taken
 abbrev pub Takes : Option (List ℕ) → List ℕ → ℕ → Type 0
 Takes now left n = now ≡ Some (drop n left)
 
--- so many bytes of those left were taken at most, and the source failed
+-- so many bytes were wanted, some of them were taken, and the source failed
 pub record TakesPartly (now : Option (List ℕ)) (left : List ℕ) (count : ℕ) : Type 0 where
   pub taken : ℕ
   pub some : taken ≤ length (take count left)
   pub left_is : Takes now left taken
 
--- some bytes were taken, and memory ran out
+-- so many bytes were wanted, some of them were taken, and memory ran out
 pub record TakesInVain (count : ℕ) (left : List ℕ) (now : Option (List ℕ)) (faults faults' : ℕ) : Type 0 where
   pub taken : ℕ
   pub some : taken ≤ length (take count left)

@@ -22,6 +22,9 @@ const BAD_FILE: u16 = 9;
 const STREAM_FAILED: u16 = 5;
 
 /// Answers the call that waits.
+///
+/// # Errors
+/// `NoMemory` where there is no room for the bytes of a read of the input, of which some may have been taken.
 pub fn attend<M: Machine, I: Source, O: Sink, E: Sink>(
     alloc: Global,
     machine: &mut M,

@@ -15,6 +15,9 @@ use word_kit::NoMemory;
 
 /// Makes so many steps, or as many as there are until the run ends, and answers its calls. The answer is how the run
 /// stands then: `Running` where all the steps were made.
+///
+/// # Errors
+/// `NoMemory` where there is no room for the bytes of a read of the input, of which some may have been taken.
 pub fn run<M: Machine, I: Source, O: Sink, E: Sink>(
     alloc: Global,
     machine: &mut M,

@@ -25,6 +25,9 @@ pub enum Taken {
 }
 
 /// Takes `count` bytes, or all to the source's end.
+///
+/// # Errors
+/// `NoMemory` where there is no room for them, of which some may have been taken.
 pub fn take_up_to<I: Source>(alloc: Global, input: &mut I, count: usize) -> Result<Taken, NoMemory>
     ensures taken { IfOk result (λ taken. (left : List ℕ) → I.left input.old ≡ Some left
         → HasTaken taken (I.left input.new) left count) }

@@ -57,8 +57,8 @@ pub record RanPartly (o : Outside) (file : List ℕ) (steps : ℕ) (old new : St
   pub loaded : IsLoaded o file program
   pub ran : HasRunPartly program steps old new
 
--- What each cause of the command says. Memory runs out before the first step, in a read, or for the line of a run that
--- ended.
+-- What each cause of the command says. Memory stands before the first step, in a read, or in place of the cause of a run
+-- that ended.
 abbrev pub EndsRun : Outside → List ℕ → ℕ → Streams → Streams → Cause → Type 0
 EndsRun o file steps old new (cause.GuestExit number) = RanTo o file steps old new (ending.Exit number)
 EndsRun o file steps old new cause.StepsSpent = RanTo o file steps old new ending.Running
