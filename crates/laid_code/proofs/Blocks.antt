@@ -164,8 +164,10 @@ module _ (reading : ℕ → Option Instr) (ops : List ℕ → Option Fetched) (P
             fetched = word_at k i lt word;
             labels = labels_of here tile;
             edges = edges_of here tile;
+            leaps = [];
             stand = both.0;
             edges_stand = λ e c. edge_at e.target e.at (both.1 e c);
+            leaps_stand = λ at c. absurd (none_of at c);
             fits = λ g core choices at before. subst (λ (w : ℕ). Fits no_registers area (rights_of P) core (guest_acts (rights_of P) i (effect_of i g) g) (flow s.host area (flow_tile i w no_registers) None choices core)) at (fl.does area (rights_of P) s.host g core choices before);
           };
           few = (omega arith, tt);

@@ -12,14 +12,13 @@ use Rattle.machines.specs.Guest.{Guest}
 use Rattle.machines.specs.Host.{Choice, Core, Host}
 use Rattle.tiles.specs.Perform.{perform}
 use Rattle.tiles.specs.Row.{Window, IsReady, IsDone}
-use Rattle.tiles.proofs.Lines.{goes_to}
 use Rattle.tiles.proofs.Walked.{ops_are_walked}
 use Rattle.simulation.specs.Windows.{rows_of, behind_all}
 use Rattle.simulation.specs.Setting.{Setting, Stood}
 use Rattle.simulation.specs.Plan.{PlanStep, Tile, BranchTile, word_count, room, HasFewMoves, EdgeAt, SwitchAt, TileAt, IsUnneeded, BlockAt}
 use Rattle.simulation.specs.Relation.{inside, leaving, IsTranslation}
 use Rattle.simulation.proofs.Windows.{Passes, is_next, words_pass, other_goes}
-use Rattle.simulation.proofs.Full.{full, full_alike, full_represents, full_in_range, walk_keeps}
+use Rattle.simulation.proofs.Full.{goes_to, full, full_alike, full_represents, full_in_range, walk_keeps}
 use Rattle.simulation.proofs.Switches.{Steps, jumped}
 
 not_dead : (dead live : Bool) → (dead ≡ true → live ≡ false) → live ≡ true → dead ≡ false

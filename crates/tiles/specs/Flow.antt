@@ -1,5 +1,5 @@
 -- When the tile of a flow word does what its instruction does. This project's own.
-use Rattle.std.specs.Prelude.{◌≡◌, ℕ, ◌⊎◌, Bool, true, false, cond, eqb, List, [], ◌∷◌, drop, Option, Some, None}
+use Rattle.std.specs.Prelude.{◌≡◌, ℕ, ◌*◌, ◌/◌, ◌⊎◌, Bool, true, false, cond, eqb, List, [], ◌∷◌, drop, Option, Some, None}
 use Rattle.space.specs.declared.call.End.{End}
 use Rattle.space.specs.declared.call.End.TheVariants.{Outside}
 use Rattle.space.specs.Reports.{ListedCall, AnswerValue}
@@ -85,10 +85,15 @@ pub record IsBehind (map : Map) (area : ℕ) (guest : Rights) (g' : Guest) (befo
   pub memory : (a : ℕ) → IsUnowned map area guest.held a → after.bytes a ≡ before.bytes a
   pub is_core : IsCore after
 
--- The tile is left as the row goes on: to the next address, by the same call, with the same end. Behind a guest that
--- goes outside nothing is asked of the host.
+-- where the indirect sequence leads: the word in ecx without its two low bits
+abbrev pub leap_target : Core → ℕ
+leap_target core = 4 * (core.regs 1 / 4)
+
+-- The tile is left as the row goes on: by the edge to the next address, or by the indirect sequence with it in ecx; by
+-- the same call; with the same end. Behind a guest that goes outside nothing is asked of the host.
 abbrev pub FitsGoing : Map → ℕ → Rights → Core → Guest → Exit → Type 0
 FitsGoing map area guest before g' (Leaves target after) = (target ≡ g'.next) × IsBehind map area guest g' before after
+FitsGoing map area guest before g' (Leaps after) = (leap_target after ≡ g'.next) × IsBehind map area guest g' before after
 FitsGoing map area guest before g' _ = ⊥
 
 abbrev pub Fits : Map → ℕ → Rights → Core → Outcome Guest → Exit → Type 0
