@@ -1,3 +1,4 @@
 pub mod Target
 pub mod SystemCall
 pub mod Tile
+pub mod FlowWords

@@ -7,6 +7,7 @@ pub mod Items
 pub mod Flows
 pub mod SystemCall
 pub mod FlowRows
+pub mod Straight
 pub mod Targets
 pub mod Frames
 pub mod Anywhere

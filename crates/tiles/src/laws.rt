@@ -1,6 +1,7 @@
 //! What the tiles do. Each law is the contract of a function that does nothing.
 
 ghost use Rattle.tiles.specs.Standing.{OpsAreWalked, FlowsAreWalked};
+ghost use Rattle.tiles.specs.Straight.{RowsAreStraight, AccessesAreInside};
 ghost use Rattle.tiles.specs.Laws.{AddiTileDoesRow, AddTileDoesRow, TilesDoRows, BranchTargetsAreOne, BranchTileDoesRow, SystemCallTileDoesRow, FlowTilesDoRows, PlacesAreRead, PlacesAreWritten, LoadsKeepMemory, OpsStandAnywhere, ProgramsWriteHeld};
 
 /// Under every register map, the place of a location can be read and has its value; it can be written,
@@ -40,6 +41,13 @@ pub fn system_call_tile()
 /// Each tile of a built flow word does what the word's row does.
 pub fn flow_tiles_do_rows()
     ensures { FlowTilesDoRows }
+{}
+
+/// Every instruction that is no flow word goes on to the next word or ends outside, with no call; where
+/// it goes on, what it loads is held, and what it stores is held and may be written.
+pub fn straight_rows()
+    ensures next { RowsAreStraight }
+    ensures access { AccessesAreInside }
 {}
 
 /// What a program may write lies in its segments.
