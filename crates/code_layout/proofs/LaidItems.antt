@@ -18,7 +18,9 @@ use Rattle.ia_codec.specs.declared.op.Op.TheVariants.{MovImm, MovTo, MovFrom, Al
 use Rattle.ia_codec.specs.declared.op.Operand.TheVariants.{Reg, Abs}
 use Rattle.ia_codec.specs.declared.op.AluOp.TheVariants.{Add as Sum}
 use Rattle.base_alu.specs.Tile.{tile as alu_tile}
-use Rattle.code_layout.specs.Code.{IsLaid, items, is_flow, no_registers}
+use Rattle.code_layout.specs.Places.{no_registers}
+use Rattle.base_flow.specs.FlowWords.{is_flow}
+use Rattle.code_layout.specs.Code.{IsLaid, items}
 
 EachLaid : List FlowOp → Type 0
 EachLaid [] = Unit {0}

@@ -8,3 +8,4 @@ pub mod Laid
 pub mod Beginning
 pub mod Conditions
 pub mod Short
+pub mod Spelled
