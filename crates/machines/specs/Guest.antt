@@ -1,4 +1,4 @@
--- The guest: the PowerPC of Power ISA Book I with the calls of Linux. Sections are numbered as in version 2.07 B.
+-- The guest: the PowerPC of Power ISA Book I with the calls of Linux.
 use Rattle.std.specs.Prelude.{ℕ, zero, suc, ◌+◌, ◌-◌, ◌*◌, ◌/◌, ◌%◌, ◌^◌, Bool, true, false, cond, ◌&&◌, ◌||◌, eqb, leb, ltb, List, length, Option, Some, None}
 use Rattle.space.specs.declared.call.End.TheVariants.{Exit, Trap as Trapped, Illegal, Outside}
 use Rattle.space.specs.declared.program.Program.{Program}
