@@ -1,0 +1,17 @@
+pub mod Small
+pub mod Memory
+pub mod Places
+pub mod PlaceLaws
+pub mod Frames
+pub mod Anywhere
+pub mod Walked
+pub mod Signed
+pub mod Products
+pub mod Rooms
+pub mod Shows
+pub mod Done
+pub mod Written
+pub mod Results
+pub mod Relates
+pub mod FlowDone
+pub mod Placeable
