@@ -1,6 +1,7 @@
 -- Tiles of forms that give one result, and may put CA and record.
-use Rattle.std.proofs.Common.{◌≡◌, ℕ, ◌^◌, ◌<◌, ◌≤◌, Bool, true, false, eqb, List, [], ◌∷◌, ◌++◌, drop, Option, Some, None, bit_and, refl, sym, ap, ◌∙◌, subst, arith}
+use Rattle.std.proofs.Common.{◌≡◌, ℕ, ◌^◌, ◌<◌, ◌≤◌, Bool, true, false, eqb, List, [], ◌∷◌, ◌++◌, length, drop, Option, Some, None, bit_and, refl, sym, ap, ◌∙◌, subst, arith}
 use Rattle.std.proofs.lemmas.Bool.Decides.{nat_tests}
+use Rattle.std.proofs.lemmas.List.{length-append}
 use Rattle.word_kit.specs.Words.{one_if}
 use Rattle.ppc_isa.specs.declared.instr.Instr.{Instr}
 use Rattle.ppc_isa.specs.Legal.{IsLegal}
@@ -15,6 +16,7 @@ use Rattle.machines.specs.Guest.{Guest, effect_of, acts, onward, results}
 use Rattle.machines.specs.Host.{Choice, choice_at}
 use Rattle.machines.specs.Representation.{AreInRange}
 use Rattle.symbolic_tiles.specs.Row.{DoesRow}
+use Rattle.symbolic_tiles.specs.Tiles.{IsTileOf}
 use Rattle.symbolic_tiles.specs.SymbolicOps.{SymbolicOp, ops_of, AreWellFormed}
 use Rattle.symbolic_tiles.specs.Recording.{record_ops}
 use Rattle.row_laws.proofs.Shapes.{Gives}
@@ -68,6 +70,10 @@ record_are_ops : (records : Bool) → AreWellFormed (record_ops records)
 record_are_ops true = ((tt, tt), ((tt, omega arith), ((tt, omega arith), ((tt, tt), ((tt, omega arith), ((tt, tt), ((tt, (omega arith, omega arith)), ((tt, tt), (((omega arith, omega arith), tt), tt)))))))))
 record_are_ops false = tt
 
+with_record : (ops : List SymbolicOp) (records : Bool) → length ops ≤ 119 → length (ops ++ record_ops records) ≤ 128
+with_record ops true h = let e = length-append ops (record_ops true) in omega (arith, e, h)
+with_record ops false h = let e = length-append ops (record_ops false) in omega (arith, e, h)
+
 module _ (i : Instr) (k : ℕ) (carries records : Bool) (number : Guest → ℕ) (carry : Guest → Bool) (lk : k < 32) where
   abbrev pub IsRow : Type 0
   IsRow = (guest : Rights) (g : Guest) → acts guest i (effect_of i g) g ≡ Goes (onward (results carries records k (number g) (effect_of i g) g.locs) g)
@@ -100,8 +106,8 @@ module _ (i : Instr) (k : ℕ) (carries records : Bool) (number : Guest → ℕ)
       let byte = ap (λ n. field_byte (condition_holds Less (logic_flags (bit_and (s.regs 0) (s.regs 0)))) (eqb (bit_and (s.regs 0) (s.regs 0)) 0) n) so_same ∙ field_of_result (number g) (s.regs 0) (g.locs 43) h.0 small so_small in
       (λ x lx. ap (λ v. update s.locs 34 v x) byte ∙ same_update s.locs (carried carries (carry g) (update g.locs k (number g))) 34 (field_of_number (number g) (g.locs 43)) x (h.1 x) ∙ same x, λ a held. ap (λ f. f a) (h.2 ∙ bytes))
 
-  pub results_do : (ops : List SymbolicOp) → IsLegal i → AreWellFormed ops → IsRow → RowGives → OpsGive ops → DoesRow i (ops_of (ops ++ record_ops records))
-  results_do ops legal are row gives run =
+  does_it : (ops : List SymbolicOp) → IsLegal i → AreWellFormed ops → IsRow → RowGives → OpsGive ops → DoesRow i (ops_of (ops ++ record_ops records))
+  does_it ops legal are row gives run =
       ops_do_row i (ops ++ record_ops records) legal (both_ops ops (record_ops records) are (record_are_ops records)) (keeps_fields row)
       (λ guest host g g' regs flags choices given words leads.
       let e = goes_same (onward (results carries records k (number g) (effect_of i g) g.locs) g) g' (sym (row guest g) ∙ leads) in
@@ -110,3 +116,10 @@ module _ (i : Instr) (k : ℕ) (carries records : Bool) (number : Guest → ℕ)
       (records_it guest host g g' records given.in_range r.0
       (λ x. sym (row_results carries records k (number g) (carry g) (effect_of i g) (values_in i g) g.locs (omega arith) given.in_range (record { cr = refl; xer = refl }) (gives g) x) ∙ ap (λ h. h.locs x) e)
       (ap (λ h. h.bytes) e)))
+
+  pub results_do : (ops : List SymbolicOp) → IsLegal i → AreWellFormed ops → length ops ≤ 119 → IsRow → RowGives → OpsGive ops → IsTileOf i (ops ++ record_ops records)
+  results_do ops legal are short row gives run = record {
+    well_formed = both_ops ops (record_ops records) are (record_are_ops records);
+    few = with_record ops records short;
+    does = does_it ops legal are row gives run;
+  }

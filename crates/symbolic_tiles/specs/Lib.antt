@@ -5,6 +5,7 @@ pub mod Flow
 pub mod Standing
 pub mod SymbolicOps
 pub mod SymbolicState
+pub mod Tiles
 pub mod Recording
 pub mod TileItems
 pub mod SymbolicExit

@@ -1,0 +1,3 @@
+pub mod Registers
+pub mod Families
+pub mod Tiles

@@ -1,0 +1,37 @@
+-- Each tile does its row.
+use Rattle.std.proofs.Common.{◌≡◌, ℕ, ◌^◌, ◌<◌, ◌≤◌, Bool, true, false, ◌==◌, List, [], ◌∷◌, length, All, if◌then◌else◌, refl, subst, sym, arith}
+use Rattle.std.proofs.lemmas.List.{length-map}
+use Rattle.word_kit.specs.Words.{sign_extended}
+use Rattle.ppc_isa.specs.declared.instr.Instr.TheVariants as instr
+use Rattle.ppc_isa.specs.declared.instr.ImmediateOp.TheVariants.{Addi}
+use Rattle.ppc_isa.specs.declared.instr.ArithmeticOp.TheVariants as arithmetic
+use Rattle.ppc_isa.specs.Legal.{IsLegal}
+use Rattle.ia_codec.specs.declared.op.AluOp.TheVariants.{Add}
+use Rattle.symbolic_tiles.specs.declared.symbolic_op.SymbolicOperand.TheVariants.{Location}
+use Rattle.symbolic_tiles.specs.declared.symbolic_op.SymbolicOp.TheVariants.{MovImmediate, Put, Alu, AluImmediate}
+use Rattle.symbolic_tiles.specs.SymbolicOps.{op_of}
+use Rattle.symbolic_tiles.specs.Tiles.{IsTileOf}
+use Rattle.symbolic_tiles.proofs.Results.{plain}
+use Rattle.symbolic_tiles.proofs.Placeable.{ops_placeable}
+use Rattle.base_alu.specs.Tile.{through_eax, symbolic_tile, tile}
+use Rattle.base_alu.specs.Laws.{TilesAreTiles, TilesDoRows, TilesArePlaceable}
+use Rattle.base_alu.proofs.Registers.{word, gpr, extended_word}
+use Rattle.base_alu.proofs.Families.{immediate_do, arithmetic_do}
+
+addi_tile : (d a imm : ℕ) (z : Bool) → (a == 0) ≡ z → IsLegal (instr.Immediate Addi d a imm) → IsTileOf (instr.Immediate Addi d a imm) (symbolic_tile (instr.Immediate Addi d a imm))
+addi_tile d a imm true e legal = rw e (immediate_do Addi d a imm legal (MovImmediate 0 (sign_extended 16 imm) ∷ Put d 0 ∷ []) ((tt, extended_word imm legal.fit.1.1.1.0), ((word d legal.fit.1.0, tt), tt)) (omega arith)
+    (λ guest host g regs flags choices range words. let v = extended_word imm legal.fit.1.1.1.0 in rw e (plain g.locs g.bytes d (omega (arith, v)) v)))
+addi_tile d a imm false e legal = rw e (immediate_do Addi d a imm legal (through_eax a (AluImmediate Add 0 (sign_extended 16 imm)) d) ((tt, word a legal.fit.1.1.0), ((tt, extended_word imm legal.fit.1.1.1.0), ((word d legal.fit.1.0, tt), tt))) (omega arith)
+    (λ guest host g regs flags choices range words. rw e (plain g.locs g.bytes d (omega arith) (omega arith))))
+
+pub tiles_are_tiles : TilesAreTiles
+tiles_are_tiles (instr.Immediate Addi d a imm) legal built = addi_tile d a imm (a == 0) refl legal
+tiles_are_tiles (instr.Arithmetic arithmetic.Add d a b false) legal built = arithmetic_do arithmetic.Add d a b false legal (through_eax a (Alu Add 0 (Location b)) d) ((tt, word a legal.fit.1.1.0), ((tt, word b legal.fit.1.1.1.0), ((word d legal.fit.1.0, tt), tt))) (omega arith)
+    (λ guest host g regs flags choices range words. plain g.locs g.bytes d (omega arith) (omega arith))
+tiles_are_tiles _ legal built = absurd built
+
+pub tiles_do_rows : TilesDoRows
+tiles_do_rows i legal built = (tiles_are_tiles i legal built).does
+
+pub tiles_are_placeable : TilesArePlaceable
+tiles_are_placeable i m legal built is_map = let t = tiles_are_tiles i legal built in (subst (λ n. n ≤ 128) (sym (length-map (symbolic_tile i) (op_of m))) t.few, ops_placeable m is_map (symbolic_tile i) t.well_formed)
