@@ -1,4 +1,4 @@
-mod Instructions
+pub mod Instructions
 pub mod Digits
 pub mod Bits
 pub mod Fields

@@ -15,3 +15,4 @@ pub mod Results
 pub mod Relates
 pub mod FlowDone
 pub mod Placeable
+pub mod Straight

@@ -2,6 +2,7 @@
 //! function that does nothing.
 
 ghost use Rattle.symbolic_tiles.specs.Standing.{OpsAreWalked, FlowsAreWalked};
+ghost use Rattle.symbolic_tiles.specs.Straight.{RowsAreStraight, AccessesAreInside};
 ghost use Rattle.symbolic_tiles.specs.Laws.{PlacesAreRead, PlacesAreWritten, LoadsKeepMemory, OpsStandAnywhere, ProgramsWriteHeld};
 
 /// Under every register map, the place of a location can be read and has its value; it can be written,
@@ -37,4 +38,11 @@ pub fn ops_are_walked()
 /// at most one step for each item.
 pub fn flows_are_walked()
     ensures { FlowsAreWalked }
+{}
+
+/// Every instruction that is no flow word goes on to the next word or ends outside, with no call; where
+/// it goes on, what it loads is held, and what it stores is held and may be written.
+pub fn straight_rows()
+    ensures next { RowsAreStraight }
+    ensures access { AccessesAreInside }
 {}

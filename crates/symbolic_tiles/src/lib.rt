@@ -11,7 +11,7 @@ mod tile_item;
 pub use flow_op::FlowOp;
 pub use laws::{
     flows_are_walked, loads_keep_memory, op_stands_anywhere, ops_are_walked, places_hold,
-    programs_write_held,
+    programs_write_held, straight_rows,
 };
 pub use lowering::{flow_of, flows_of, op_of, ops_of};
 pub use symbolic_op::{AccessSize, SymbolicOp, SymbolicOperand};
