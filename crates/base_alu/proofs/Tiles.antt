@@ -1,5 +1,5 @@
 -- Each tile does its row.
-use Rattle.std.proofs.Common.{◌≡◌, ℕ, ◌^◌, ◌<◌, ◌≤◌, Bool, true, false, ◌==◌, List, [], ◌∷◌, length, All, if◌then◌else◌, refl, subst, sym, arith}
+use Rattle.std.proofs.Common.{◌≡◌, ℕ, ◌≤◌, Bool, true, false, ◌==◌, [], ◌∷◌, refl, subst, sym, arith}
 use Rattle.std.proofs.lemmas.List.{length-map}
 use Rattle.word_kit.specs.Words.{sign_extended}
 use Rattle.ppc_isa.specs.declared.instr.Instr.TheVariants as instr
@@ -13,9 +13,9 @@ use Rattle.symbolic_tiles.specs.SymbolicOps.{op_of}
 use Rattle.symbolic_tiles.specs.Tiles.{IsTileOf}
 use Rattle.symbolic_tiles.proofs.Results.{plain}
 use Rattle.symbolic_tiles.proofs.Placeable.{ops_placeable}
-use Rattle.base_alu.specs.Tile.{through_eax, symbolic_tile, tile}
+use Rattle.base_alu.specs.Tile.{through_eax, symbolic_tile}
 use Rattle.base_alu.specs.Laws.{TilesAreTiles, TilesDoRows, TilesArePlaceable}
-use Rattle.base_alu.proofs.Registers.{word, gpr, extended_word}
+use Rattle.symbolic_tiles.proofs.Registers.{word, extended_word}
 use Rattle.base_alu.proofs.Families.{immediate_do, arithmetic_do}
 
 addi_tile : (d a imm : ℕ) (z : Bool) → (a == 0) ≡ z → IsLegal (instr.Immediate Addi d a imm) → IsTileOf (instr.Immediate Addi d a imm) (symbolic_tile (instr.Immediate Addi d a imm))

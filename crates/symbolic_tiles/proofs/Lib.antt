@@ -12,6 +12,7 @@ pub mod Shows
 pub mod Done
 pub mod Written
 pub mod Results
+pub mod Registers
 pub mod Relates
 pub mod FlowDone
 pub mod Placeable

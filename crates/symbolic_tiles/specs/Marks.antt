@@ -5,7 +5,7 @@ use Rattle.ia_codec.specs.declared.op.Condition.{Condition}
 use Rattle.reg_map.specs.Relocated.{IsPlaceable}
 use Rattle.symbolic_tiles.specs.TileItems.{code_of}
 use Rattle.symbolic_tiles.specs.declared.flow_op.FlowOp.{FlowOp}
-use Rattle.symbolic_tiles.specs.declared.flow_op.FlowOp.TheVariants.{Plain, Jump, Mark, Edge, Leap}
+use Rattle.symbolic_tiles.specs.declared.flow_op.FlowOp.TheVariants.{Plain, Jump, Mark}
 
 -- whether a mark stands among the items
 abbrev pub is_mark : FlowOp → ℕ → Bool

@@ -1,6 +1,6 @@
 -- The items of a flow word's tile (this project's own), told without a register map: symbolic ops, jumps forward to labels,
 -- edges, and how a run ends or calls; and the item of the file that each is under a map.
-use Rattle.std.specs.Prelude.{◌≡◌, ◌≢◌, ℕ, ◌<◌, List, [], ◌∷◌, ◌++◌, map, Option, Some, None}
+use Rattle.std.specs.Prelude.{◌≢◌, ℕ, ◌<◌, List, [], ◌∷◌, ◌++◌, map, Option, Some, None}
 use Rattle.ppc_isa.specs.declared.map.Map.{Map}
 use Rattle.ia_codec.specs.declared.op.Op.TheVariants.{Int80, Int3, Ud2}
 use Rattle.ia_codec.specs.declared.op.Condition.{Condition}

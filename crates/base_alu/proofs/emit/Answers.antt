@@ -1,4 +1,4 @@
-use Rattle.std.proofs.Common.{◌≤◌, length, All, sym, subst}
+use Rattle.std.proofs.Common.{All, sym, subst}
 use Rattle.std.proofs.lemmas.Result.{IfOk-weaker}
 use Rattle.reg_map.specs.Relocated.{IsPlaceable}
 use Rattle.symbolic_tiles.specs.Row.{DoesRowAt}

@@ -1,0 +1,4 @@
+pub mod BranchTiles
+pub mod TrapTiles
+pub mod SystemCall
+pub mod Tiles
