@@ -15,7 +15,9 @@ ghost use Rattle.base_alu.specs.Tile.{IsBuilt, tile};
 
 use crate::table::symbolic_tile;
 use ia_codec::Op;
-pub use laws::{tiles_are_placeable, tiles_are_tiles, tiles_do_rows};
+pub use laws::{
+    built_are_straight, tiles_are_placeable, tiles_are_short, tiles_are_tiles, tiles_do_rows,
+};
 use ppc_isa::{Instr, Map};
 use std::alloc::Global;
 use symbolic_tiles::ops_of;

@@ -2,7 +2,6 @@
 use Rattle.std.specs.Prelude.{ℕ, ◌+◌, ◌-◌, ◌/◌, ◌%◌, ◌^◌, ◌==◌, Bool, true, false, List, [], ◌∷◌, ◌++◌, map, find, length, slice_index_or, Option, None, Some, if◌then◌else◌}
 use Rattle.ppc_isa.specs.declared.map.Map.{Map}
 use Rattle.ppc_isa.specs.declared.instr.Instr.{Instr}
-use Rattle.ppc_isa.specs.declared.instr.Instr.TheVariants.{Branch, SystemCall}
 use Rattle.ia_codec.specs.Spelling.{condition_number, spelling}
 use Rattle.ia_codec.specs.declared.op.Op.{Op}
 use Rattle.ia_codec.specs.declared.op.Op.TheVariants.{Jcc, Jmp}
@@ -12,19 +11,14 @@ pub use Rattle.reg_map.specs.Relocated.{operand_at, op_at, IsPlaceable}
 use Rattle.code_layout.specs.Blocks.{address_of}
 use Rattle.base_alu.specs.Tile.{tile as alu_tile}
 use Rattle.base_flow.specs.Tile.{tile as flow_tile}
-use Rattle.base_flow.specs.Target.{next_address}
-use Rattle.base_flow.specs.declared.flow_op.FlowOp.{FlowOp}
-use Rattle.base_flow.specs.declared.flow_op.FlowOp.TheVariants.{Plain, Jump, Mark, Edge, Leap}
+pub use Rattle.symbolic_tiles.specs.FlowWords.{is_flow}
+use Rattle.machines.specs.Guest.{behind as next_address}
+use Rattle.symbolic_tiles.specs.declared.flow_op.FlowOp.{FlowOp}
+use Rattle.symbolic_tiles.specs.declared.flow_op.FlowOp.TheVariants.{Plain, Jump, Mark, Edge, Leap}
 
 -- the register map of every block so far
 abbrev pub no_registers : Map
 no_registers = record { ebx = None; esi = None; edi = None }
-
--- whether a block ends behind the instruction
-abbrev pub is_flow : Instr → Bool
-is_flow (Branch target absolute link) = true
-is_flow SystemCall = true
-is_flow _ = false
 
 -- the tile of a word that is no flow word, with the edge to the next address where its block ends
 abbrev pub straight : Instr → ℕ → Bool → List FlowOp

@@ -1,5 +1,6 @@
 pub mod Built
 pub mod Blocks
+pub mod Leap
 pub mod Code
 pub mod Leaders
 pub mod Layout

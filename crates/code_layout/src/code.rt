@@ -7,9 +7,9 @@ ghost use Rattle.code_layout.specs.Built.{IsBuilt, IsBuiltWord};
 ghost use Rattle.reg_map.specs.Relocated.{operand_at as operand_over, op_at};
 ghost use Rattle.code_layout.specs.Code.{IsLaid, items, jump as jump_of, item_length as length_of, items_length, before_mark as before_mark_of, entry_of, item_bytes, items_bytes};
 
-use crate::blocks::{is_flow, place_at};
+use crate::blocks::place_at;
 use crate::built::instruction;
-use base_flow::{FlowOp, next_address};
+use base_flow::{FlowOp, is_flow, next_address};
 use ia_codec::{Condition, Op, Operand, encode};
 use ppc_isa::{Instr, Map};
 use std::alloc::Global;

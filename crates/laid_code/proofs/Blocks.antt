@@ -12,18 +12,18 @@ use Rattle.ppc_isa.proofs.ReadWords.{one_of}
 use Rattle.ia_codec.specs.declared.op.Op.{Op}
 use Rattle.base_alu.specs.Tile.{tile as alu_tile}
 use Rattle.base_flow.specs.Tile.{tile as flow_tile}
-use Rattle.base_flow.specs.Target.{next_address}
-use Rattle.base_flow.specs.declared.flow_op.FlowOp.{FlowOp}
-use Rattle.base_flow.specs.declared.flow_op.FlowOp.TheVariants.{Plain, Edge}
+use Rattle.machines.specs.Guest.{behind as next_address}
+use Rattle.symbolic_tiles.specs.declared.flow_op.FlowOp.{FlowOp}
+use Rattle.symbolic_tiles.specs.declared.flow_op.FlowOp.TheVariants.{Plain, Edge}
 use Rattle.runs.specs.Machine.{Ends}
 use Rattle.machines.specs.Memory.{rights_of, code_of}
 use Rattle.machines.specs.Readings.{Fetched, ReadsWords}
 use Rattle.machines.specs.Guest.{behind, effect_of, is_code_word, code_word, executes}
 use Rattle.machines.specs.Guest.{acts as guest_acts}
-use Rattle.tiles.specs.Relocated.{op_at}
-use Rattle.tiles.specs.Row.{window_of}
-use Rattle.tiles.specs.Flow.{Fits, flow}
-use Rattle.tiles.specs.Standing.{StandAt}
+use Rattle.symbolic_tiles.specs.Relocated.{op_at}
+use Rattle.symbolic_tiles.specs.Row.{window_of}
+use Rattle.symbolic_tiles.specs.Flow.{Fits, flow}
+use Rattle.symbolic_tiles.specs.Standing.{StandAt}
 use Rattle.simulation.specs.Setting.{Setting, IsWordAt, JumpsTo}
 use Rattle.simulation.specs.Plan.{PlanStep, Tile, FlowTile, word_count, room, HasFewMoves, EdgeAt, IsInside, TileAt, BlockAt}
 use Rattle.code_layout.specs.Blocks.{address_of, in_block, IsSet}
@@ -164,8 +164,10 @@ module _ (reading : ℕ → Option Instr) (ops : List ℕ → Option Fetched) (P
             fetched = word_at k i lt word;
             labels = labels_of here tile;
             edges = edges_of here tile;
+            leaps = [];
             stand = both.0;
             edges_stand = λ e c. edge_at e.target e.at (both.1 e c);
+            leaps_stand = λ at c. absurd (none_of at c);
             fits = λ g core choices at before. subst (λ (w : ℕ). Fits no_registers area (rights_of P) core (guest_acts (rights_of P) i (effect_of i g) g) (flow s.host area (flow_tile i w no_registers) None choices core)) at (fl.does area (rights_of P) s.host g core choices before);
           };
           few = (omega arith, tt);

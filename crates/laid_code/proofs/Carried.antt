@@ -32,7 +32,7 @@ entry_at first table hold k lt =
     let same : (address_of first k == address_of first k) ≡ true = grind (arith, nat_tests) in
     rw (place, same) (get_or_default table k hold 0 lt)
 
-entry_or_hold : (first : ℕ) (table : List ℕ) (hold : ℕ) (P : ℕ → Type 0) (a : ℕ) → P hold → ((k : ℕ) → k < length table → a ≡ address_of first k → P (slice_index table k)) → P (entry_of first table hold a)
+pub entry_or_hold : (first : ℕ) (table : List ℕ) (hold : ℕ) (P : ℕ → Type 0) (a : ℕ) → P hold → ((k : ℕ) → k < length table → a ≡ address_of first k → P (slice_index table k)) → P (entry_of first table hold a)
 entry_or_hold first table hold P a off on = by (a == address_of first (place_of first a)) refl
   where
     inner : (k : ℕ) → a ≡ address_of first k → (k < length table) ⊎ (length table ≤ k) → P (slice_index_or table k hold)
@@ -86,7 +86,7 @@ module _ (reading : ℕ → Option Instr) (ops : List ℕ → Option Fetched) (P
   laid_low : (here : ℕ) (word : Laid) (order : List Laid) → LaidAt first words area targets (code_of Q) here (word ∷ order) → here < 2 ^ 32
   laid_low here word order h = omega (arith, ends_low s (code_of Q) ops here _ runs h.2)
 
-  entry_low : (k : ℕ) → k < length words → slice_index table k < 2 ^ 32
+  pub entry_low : (k : ℕ) → k < length words → slice_index table k < 2 ^ 32
   entry_low k lt = by (found k lt)
     where
       by : Found first words area targets (code_of Q) carried.code.leaders single_blocks (length carried.code.leaders) k (slice_index table k) → slice_index table k < 2 ^ 32

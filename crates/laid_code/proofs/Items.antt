@@ -10,14 +10,14 @@ use Rattle.ia_codec.specs.declared.op.Condition.{Condition}
 use Rattle.ia_codec.specs.declared.op.Condition.TheVariants.{Below, NotBelow, Equal, NotEqual, NotAbove, Above, Sign, NotSign, Less, NotLess, NotGreater, Greater}
 use Rattle.ia_codec.specs.declared.op.Op.{Op}
 use Rattle.ia_codec.specs.declared.op.Op.TheVariants.{Jcc, Jmp}
-use Rattle.base_flow.specs.declared.flow_op.FlowOp.{FlowOp}
-use Rattle.base_flow.specs.declared.flow_op.FlowOp.TheVariants.{Plain, Jump, Mark, Edge, Leap}
+use Rattle.symbolic_tiles.specs.declared.flow_op.FlowOp.{FlowOp}
+use Rattle.symbolic_tiles.specs.declared.flow_op.FlowOp.TheVariants.{Plain, Jump, Mark, Edge, Leap}
 use Rattle.runs.specs.Machine.{Goes}
 use Rattle.machines.specs.Memory.{Code}
 use Rattle.machines.specs.Readings.{Fetched}
 use Rattle.machines.specs.Host.{Host}
-use Rattle.tiles.specs.Flow.{is_taken}
-use Rattle.tiles.specs.Standing.{StandsAt, EdgeCode, ItemsAt}
+use Rattle.symbolic_tiles.specs.Flow.{is_taken}
+use Rattle.symbolic_tiles.specs.Standing.{StandsAt, EdgeCode, ItemsAt}
 use Rattle.simulation.specs.Setting.{Setting, JumpsTo}
 use Rattle.code_layout.specs.Code.{IsLaid, op_at, jump, item_length, before_mark, item_bytes, items_bytes}
 use Rattle.laid_code.specs.Bytes.{HasBytes, RunsCode}

@@ -7,3 +7,4 @@ pub mod Rows
 pub mod Blocks
 pub mod Cut
 pub mod Carried
+pub mod Table

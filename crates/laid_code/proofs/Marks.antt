@@ -3,8 +3,8 @@ use Rattle.std.proofs.Common.{◌≡◌, ℕ, List, [], ◌∷◌, ◌++◌, len
 use Rattle.ia_codec.specs.declared.op.Op.{Op}
 use Rattle.ia_codec.specs.declared.op.Condition.TheVariants.{NotBelow, Equal}
 use Rattle.base_flow.specs.SystemCall.{not_below, equal, always, selection, request, success, failure, sc_tile}
-use Rattle.base_flow.specs.declared.flow_op.FlowOp.{FlowOp}
-use Rattle.base_flow.specs.declared.flow_op.FlowOp.TheVariants.{Plain}
+use Rattle.symbolic_tiles.specs.declared.flow_op.FlowOp.{FlowOp}
+use Rattle.symbolic_tiles.specs.declared.flow_op.FlowOp.TheVariants.{Plain}
 use Rattle.laid_code.specs.Items.{IsJumpCode, AreMarked}
 
 on_equal : IsJumpCode equal

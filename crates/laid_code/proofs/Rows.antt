@@ -12,11 +12,11 @@ use Rattle.machines.specs.Memory.{Rights}
 use Rattle.machines.specs.Guest.{Guest, behind}
 use Rattle.base_alu.specs.Tile.{tile as alu_tile}
 use Rattle.base_flow.specs.Tile.{tile as flow_tile}
-use Rattle.tiles.specs.Relocated.{op_at}
-use Rattle.tiles.specs.Row.{window_of, DoWindow}
-use Rattle.tiles.specs.Flow.{FlowDoesRow}
-use Rattle.tiles.proofs.Rows.{tiles_do_rows}
-use Rattle.tiles.proofs.FlowRows.{flow_tiles_do_rows}
+use Rattle.symbolic_tiles.specs.Relocated.{op_at}
+use Rattle.symbolic_tiles.specs.Row.{window_of, DoWindow}
+use Rattle.symbolic_tiles.specs.Flow.{FlowDoesRow}
+use Rattle.symbolic_tiles.proofs.Rows.{tiles_do_rows}
+use Rattle.symbolic_tiles.proofs.FlowRows.{flow_tiles_do_rows}
 use Rattle.simulation.specs.Windows.{rows_of, IsLinked}
 use Rattle.code_layout.specs.Built.{IsBuilt}
 use Rattle.code_layout.specs.Code.{no_registers, is_flow}

@@ -2,10 +2,10 @@
 use Rattle.std.specs.Prelude.{◌≡◌, ℕ, ◌+◌, ◌⊎◌, Bool, true, false, ◌||◌, List, [], ◌∷◌}
 use Rattle.ia_codec.specs.Spelling.{condition_number}
 use Rattle.ia_codec.specs.declared.op.Condition.{Condition}
-use Rattle.base_flow.specs.declared.flow_op.FlowOp.{FlowOp}
-use Rattle.base_flow.specs.declared.flow_op.FlowOp.TheVariants.{Jump, Mark, Edge}
+use Rattle.symbolic_tiles.specs.declared.flow_op.FlowOp.{FlowOp}
+use Rattle.symbolic_tiles.specs.declared.flow_op.FlowOp.TheVariants.{Jump, Mark, Edge}
 use Rattle.code_layout.specs.Code.{item_length, is_mark, before_mark}
-use Rattle.tiles.specs.Standing.{EdgeCode}
+use Rattle.symbolic_tiles.specs.Standing.{EdgeCode}
 
 -- a jump's code: the number of a condition, or 16, which is always
 abbrev pub IsJumpCode : ℕ → Type 0

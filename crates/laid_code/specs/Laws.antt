@@ -3,17 +3,17 @@ use Rattle.std.specs.Prelude.{◌≡◌, ℕ, ◌+◌, ◌-◌, ◌%◌, ◌^◌
 use Rattle.ia_codec.specs.Spelling.{spelling, IsInProfile}
 use Rattle.ia_codec.specs.declared.op.Op.{Op}
 use Rattle.ia_codec.specs.declared.op.Op.TheVariants.{Jmp}
-use Rattle.base_flow.specs.declared.flow_op.FlowOp.{FlowOp}
+use Rattle.symbolic_tiles.specs.declared.flow_op.FlowOp.{FlowOp}
 use Rattle.machines.specs.Memory.{Code}
 use Rattle.ppc_isa.specs.declared.instr.Instr.{Instr}
 use Rattle.space.specs.declared.program.Program.{Program}
 use Rattle.machines.specs.Readings.{Fetched, ReadsWords, ReadsOps}
-use Rattle.tiles.specs.Standing.{StandsAt, EdgeCode, ItemsAt}
-use Rattle.simulation.specs.Setting.{Setting, IsOffCode, JumpsTo}
+use Rattle.symbolic_tiles.specs.Standing.{StandsAt, EdgeCode, ItemsAt}
+use Rattle.simulation.specs.Setting.{Setting, HasTable, IsOffCode, JumpsTo}
 use Rattle.simulation.specs.Plan.{Begins}
 use Rattle.code_layout.specs.Code.{IsLaid, items_bytes}
 use Rattle.laid_code.specs.Bytes.{HasBytes, RunsCode}
-use Rattle.laid_code.specs.Instance.{code_start, setting_of, HasWords, AreBuilt, HasCodeFor}
+use Rattle.laid_code.specs.Instance.{code_start, setting_of, HasWords, AreBuilt, HasCodeFor, HasTableOf}
 use Rattle.laid_code.specs.Items.{AreMarked, labels_of, edges_of}
 
 -- Where an op's spelling stands, the op stands.
@@ -51,3 +51,9 @@ abbrev pub HoldStands : Type 0
 HoldStands =
     (reading : ℕ → Option Instr) (ops : List ℕ → Option Fetched) (P Q : Program) (first entry : ℕ) (words : List ℕ) (area : ℕ) (table : List ℕ) →
     ReadsOps ops → HasCodeFor Q first entry words area table → JumpsTo (setting_of reading ops P Q first area table) (code_start area) (code_start area)
+
+-- The table leads to the block of each code word, and elsewhere nothing but to `hold`.
+abbrev pub TablesStand : Type 0
+TablesStand =
+    (reading : ℕ → Option Instr) (ops : List ℕ → Option Fetched) (P Q : Program) (first entry : ℕ) (words : List ℕ) (area : ℕ) (table : List ℕ) →
+    ReadsOps ops → HasWords P first words → HasCodeFor Q first entry words area table → HasTableOf (setting_of reading ops P Q first area table) table → HasTable (setting_of reading ops P Q first area table)

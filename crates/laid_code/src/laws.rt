@@ -1,6 +1,6 @@
 //! What the bytes of the code carry. Each law is the contract of a function that does nothing.
 
-ghost use Rattle.laid_code.specs.Laws.{SpellingsStand, JumpsLead, ItemsStand, BlocksStand, HoldStands};
+ghost use Rattle.laid_code.specs.Laws.{SpellingsStand, JumpsLead, ItemsStand, BlocksStand, HoldStands, TablesStand};
 
 /// Where the spelling of an op stands in the code, the op stands.
 pub fn spellings_stand()
@@ -26,4 +26,9 @@ pub fn blocks_stand()
 /// `hold` is a jump to itself.
 pub fn hold_stands()
     ensures { HoldStands }
+{}
+
+/// The table of a written file leads to the block of each code word.
+pub fn tables_stand()
+    ensures { TablesStand }
 {}

@@ -10,16 +10,15 @@ use Rattle.runs.specs.Simulation.{Walks, stays, walks, onward, lost}
 use Rattle.runs.proofs.Walking.{join_walks}
 use Rattle.machines.specs.Guest.{Guest}
 use Rattle.machines.specs.Host.{Choice, Core, Host}
-use Rattle.tiles.specs.Perform.{perform}
-use Rattle.tiles.specs.Row.{Window, IsReady, IsDone}
-use Rattle.tiles.proofs.Lines.{goes_to}
-use Rattle.tiles.proofs.Walked.{ops_are_walked}
+use Rattle.symbolic_tiles.specs.Perform.{perform}
+use Rattle.symbolic_tiles.specs.Row.{Window, IsReady, IsDone}
+use Rattle.symbolic_tiles.proofs.Walked.{ops_are_walked}
 use Rattle.simulation.specs.Windows.{rows_of, behind_all}
 use Rattle.simulation.specs.Setting.{Setting, Stood}
 use Rattle.simulation.specs.Plan.{PlanStep, Tile, BranchTile, word_count, room, HasFewMoves, EdgeAt, SwitchAt, TileAt, IsUnneeded, BlockAt}
 use Rattle.simulation.specs.Relation.{inside, leaving, IsTranslation}
 use Rattle.simulation.proofs.Windows.{Passes, is_next, words_pass, other_goes}
-use Rattle.simulation.proofs.Full.{full, full_alike, full_represents, full_in_range, walk_keeps}
+use Rattle.simulation.proofs.Full.{goes_to, full, full_alike, full_represents, full_in_range, walk_keeps}
 use Rattle.simulation.proofs.Switches.{Steps, jumped}
 
 not_dead : (dead live : Bool) → (dead ≡ true → live ≡ false) → live ≡ true → dead ≡ false
@@ -48,6 +47,7 @@ module _ (s : Setting) (t : IsTranslation s) where
       let outcome : window.outcome s.guest shown ≡ Goes other.0 = tile.rows shown ∙ other.1 in
       let ready : IsReady window map s.area s.guest s.host shown h.core = record {
         page = t.page;
+        writes_held = t.writes_held;
         loads = λ a c. t.segments.held a (tile.inside.loads shown other.0 a outcome c);
         stores = λ a c. let w = tile.inside.stores shown other.0 a outcome c in t.segments.writable a w.0 ∙ w.1;
         represents = full_represents s map g h.core stood;

@@ -1,18 +1,23 @@
 -- Plans, and their code at addresses of the host. This project's own.
-use Rattle.std.specs.Prelude.{◌≡◌, ℕ, ◌+◌, ◌<◌, ◌≤◌, true, false, cond, List, [], ◌∷◌, length, Option, Some, None, Contains}
+use Rattle.std.specs.Prelude.{◌≡◌, ℕ, ◌+◌, ◌<◌, ◌≤◌, ◌⊎◌, true, false, cond, List, [], ◌∷◌, length, Option, Some, None, Contains}
 use Rattle.ppc_isa.specs.declared.instr.Instr.{Instr}
 use Rattle.ppc_isa.specs.declared.map.Map.{Map}
 use Rattle.ia_codec.specs.declared.op.Op.{Op}
 use Rattle.ia_codec.specs.declared.op.Condition.{Condition}
-use Rattle.base_flow.specs.declared.flow_op.FlowOp.{FlowOp}
+use Rattle.ia_codec.specs.declared.op.Condition.TheVariants.{NotBelow}
+use Rattle.ia_codec.specs.declared.op.Operand.TheVariants.{Base}
+use Rattle.ia_codec.specs.declared.op.Op.TheVariants.{JmpTo}
+use Rattle.symbolic_tiles.specs.declared.flow_op.FlowOp.{FlowOp}
 use Rattle.runs.specs.Machine.{Goes}
 use Rattle.machines.specs.Guest.{Guest, executes, behind}
 use Rattle.machines.specs.Host.{Choice, Core}
-use Rattle.tiles.specs.Perform.{perform}
-use Rattle.tiles.specs.Row.{Window, GoesThrough, DoWindow}
-use Rattle.tiles.specs.Flow.{IsBefore, Fits, flow}
-use Rattle.tiles.specs.Standing.{StandAt, EdgeCode, ItemsAt}
+use Rattle.symbolic_tiles.specs.Perform.{perform}
+use Rattle.symbolic_tiles.specs.Row.{Window, GoesThrough, DoWindow}
+use Rattle.symbolic_tiles.specs.Flow.{IsBefore, Fits, flow}
+use Rattle.symbolic_tiles.specs.Standing.{StandsAt, StandAt, EdgeCode, ItemsAt}
 use Rattle.simulation.specs.Windows.{rows_of, behind_all, IsLinked}
+use Rattle.code_layout.specs.Leap.{leap_ops}
+use Rattle.code_layout.specs.Code.{no_registers}
 use Rattle.simulation.specs.Setting.{Setting, IsWordAt, JumpsTo, ForksAt, Stood}
 
 -- A step of a block's plan: a move to another register map; a tile of ops for words; a tile for words of which the last
@@ -87,14 +92,29 @@ module _ (s : Setting) where
   abbrev pub LeadsTo : ℕ → List Instr → (Guest → ℕ) → Type 0
   LeadsTo w words next = (g g' : Guest) → g.next ≡ w → rows_of s.guest words g ≡ Goes g' → g'.next ≡ next g
 
+  -- At a host address stands the indirect sequence, which leads through the table.
+  pub record LeapAt (a : ℕ) : Type 0 where
+    pub compared : ℕ
+    pub inside : ℕ
+    pub end : ℕ
+    pub ops : StandAt s.host s.host_step a (leap_ops s.first s.count) compared
+    pub fork : ForksAt s NotBelow compared s.hold inside
+    pub jump : StandsAt s.host s.host_step inside (JmpTo (Base 0 s.table)) end
+
+  -- what the table leads to at a guest address: the block, which begins with no GPR in a register, or the adapter to it
+  abbrev pub DoorAt : ℕ → Type 0
+  DoorAt w = ((s.door w ≡ s.target w) × (s.entry_map w ≡ no_registers)) ⊎ EdgeAt no_registers w (s.door w)
+
   -- At a host address stand the items of a flow word's tile, which stands at a guest address, with the code of its edges.
   pub record FlowAt (map : Map) (w : ℕ) (word : Option Instr) (items : List FlowOp) (a : ℕ) : Type 0 where
     pub few : length items ≤ 100
     pub fetched : IsWordAt s w word
     pub labels : ℕ → ℕ
     pub edges : List EdgeCode
-    pub stand : ItemsAt s.host s.area s.host_step labels edges [] a items
+    pub leaps : List ℕ
+    pub stand : ItemsAt s.host s.area s.host_step labels edges leaps a items
     pub edges_stand : (e : EdgeCode) → Contains edges e → EdgeAt map e.target e.at
+    pub leaps_stand : (at : ℕ) → Contains leaps at → (map ≡ no_registers) × LeapAt at
     pub fits : (g : Guest) (core : Core) (choices : List Choice) → g.next ≡ w → IsBefore map s.area s.guest s.host g core → Fits map s.area s.guest core (executes s.guest word g) (flow s.host s.area items None choices core)
 
   -- From a host address on stands, under a map, the code of the steps still to come of a block's plan, the first of whose

@@ -136,6 +136,6 @@ starts P Q area table code s choices free is are set =
       unwritten = λ a off. ap (λ (f : ℕ → ℕ). f a) (sym set.image);
     } in
     record {
-      stood = subst (λ m. Stood s m (guest_start P) core) (sym (set.entry_map P.entry)) stood;
+      stood = stood;
       here = set.entry;
     }

@@ -1,8 +1,9 @@
-use Rattle.std.proofs.Common.{All, sym, subst}
+use Rattle.std.proofs.Common.{◌≤◌, List, length, All, sym, subst}
 use Rattle.std.proofs.lemmas.Result.{IfOk-weaker}
+use Rattle.ia_codec.specs.declared.op.Op.{Op}
 use Rattle.reg_map.specs.Relocated.{IsPlaceable}
 use Rattle.symbolic_tiles.specs.Row.{DoesRowAt}
-use Rattle.base_alu.proofs.Tiles.{tiles_do_rows, tiles_are_placeable}
+use Rattle.base_alu.proofs.Tiles.{tiles_do_rows, tiles_are_placeable, tiles_are_short}
 use Rattle.base_alu.proofs.emit.Goals as goal
 
 pub returns-clause-does : goal.returns-clause-does
@@ -13,4 +14,9 @@ returns-clause-does c =
 pub returns-clause-placeable : goal.returns-clause-placeable
 returns-clause-placeable c =
     let i = c.args.instr.now in let m = c.args.map.now in
-    IfOk-weaker c.tile.result _ _ (λ ops e. subst (All IsPlaceable) (sym e) (tiles_are_placeable i m c.requires.legal c.requires.built c.requires.map).1) c.tile.ensures
+    IfOk-weaker c.tile.result _ _ (λ ops e. subst (All IsPlaceable) (sym e) (tiles_are_placeable i m c.requires.legal c.requires.built c.requires.map)) c.tile.ensures
+
+pub returns-clause-few : goal.returns-clause-few
+returns-clause-few c =
+    let i = c.args.instr.now in let m = c.args.map.now in
+    IfOk-weaker c.tile.result _ _ (λ ops e. subst (λ (l : List Op). length l ≤ 128) (sym e) (tiles_are_short i m c.requires.legal c.requires.built).0) c.tile.ensures
