@@ -9,7 +9,7 @@ use Rattle.base_alu.proofs.Straight.{built_are_straight}
 use Rattle.base_flow.specs.Tile.{IsBuilt as IsBuiltFlow, HasTile}
 use Rattle.base_flow.proofs.Tiles.{built_have_tiles}
 use Rattle.code_layout.specs.Built.{IsBuilt}
-use Rattle.code_layout.specs.Code.{no_registers}
+use Rattle.code_layout.specs.Places.{no_registers}
 
 pub is_map : IsMap no_registers
 is_map = record { ebx = tt; esi = tt; edi = tt; ebx_esi = tt; ebx_edi = tt; esi_edi = tt }

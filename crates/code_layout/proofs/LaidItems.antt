@@ -4,7 +4,6 @@ use Rattle.std.proofs.lemmas.List.{append-nil}
 use Rattle.std.proofs.lemmas.List.Elements.{All-head, All-tail}
 use Rattle.ppc_isa.specs.Legal.{IsLegal, IsWordOf}
 use Rattle.ppc_isa.specs.declared.instr.Instr.{Instr}
-use Rattle.ppc_isa.specs.declared.instr.Instr.TheVariants.{Branch, SystemCall}
 use Rattle.ia_codec.specs.declared.op.Op.{Op}
 use Rattle.machines.specs.Guest.{behind as next_address}
 use Rattle.symbolic_tiles.specs.declared.flow_op.FlowOp.{FlowOp}
@@ -13,31 +12,21 @@ use Rattle.symbolic_tiles.specs.FlowWords.{is_flow}
 use Rattle.symbolic_tiles.specs.Marks.{AreLaid}
 use Rattle.base_alu.specs.Tile.{tile as alu_tile}
 use Rattle.base_alu.proofs.Tiles.{tiles_are_placeable}
-use Rattle.base_flow.specs.Tile.{IsBuilt as IsBuiltFlow, tile as flow_tile}
-use Rattle.base_flow.specs.SystemCall.{selection_items, request_items, answer_items, success_items, failure_items, error_items, done_items}
+use Rattle.base_flow.specs.Tile.{tile as flow_tile}
 use Rattle.base_flow.proofs.Tiles.{flow_tiles_are_laid}
 use Rattle.code_layout.specs.Built.{IsBuilt}
-use Rattle.code_layout.specs.Code.{IsPlaceable, IsLaid, straight, items, no_registers}
-use Rattle.code_layout.proofs.BuiltWords.{is_map, straight_word, flow_word, has_tile}
+use Rattle.code_layout.specs.Places.{no_registers}
+use Rattle.code_layout.specs.Code.{IsPlaceable, IsLaid, straight, items}
+use Rattle.code_layout.proofs.BuiltWords.{is_map, straight_word, has_tile}
 
--- nothing but the indirect sequence can't be laid out so far
-has_leap : List FlowOp → Bool
-has_leap [] = false
-has_leap (Leap ∷ items) = true
-has_leap (_ ∷ items) = has_leap items
-
-items-hold : (items : List FlowOp) → AreLaid items → has_leap items ≡ false → All IsLaid items
-unfolding has_leap
-items-hold [] h n k d lt = absurd (omega arith)
-items-hold (Plain op ∷ items) h n zero d lt = h.0
-items-hold (Jump code mark ∷ items) h n zero d lt = tt
-items-hold (Mark mark ∷ items) h n zero d lt = tt
-items-hold (Edge target ∷ items) h n zero d lt = tt
-items-hold (Plain op ∷ items) h n (suc k) d lt = items-hold items h.1 n k d (omega arith)
-items-hold (Jump code mark ∷ items) h n (suc k) d lt = items-hold items h.1 n k d (omega arith)
-items-hold (Mark mark ∷ items) h n (suc k) d lt = items-hold items h.1 n k d (omega arith)
-items-hold (Edge target ∷ items) h n (suc k) d lt = items-hold items h.1 n k d (omega arith)
-items-hold (Leap ∷ items) h n k d lt = absurd (let e : true ≡ false = n in cc)
+items-hold : (items : List FlowOp) → AreLaid items → All IsLaid items
+items-hold [] h k d lt = absurd (omega arith)
+items-hold (Plain op ∷ items) h zero d lt = h.0
+items-hold (Jump code mark ∷ items) h zero d lt = tt
+items-hold (Mark mark ∷ items) h zero d lt = tt
+items-hold (Edge target ∷ items) h zero d lt = tt
+items-hold (Leap ∷ items) h zero d lt = tt
+items-hold (item ∷ items) h (suc k) d lt = items-hold items h.1 k d (omega arith)
 
 -- ops that can be spelled, and an edge behind them
 plain-hold : (ops : List Op) (rest : List FlowOp) → All IsPlaceable ops → All IsLaid rest → All IsLaid (map (λ op. Plain op) ops ++ rest)
@@ -50,17 +39,11 @@ edge-holds true next zero d lt = tt
 edge-holds true next (suc k) d lt = absurd (omega arith)
 edge-holds false next k d lt = absurd (omega arith)
 
-no-leap : (i : Instr) (at : ℕ) → IsBuiltFlow i → has_leap (flow_tile i at no_registers) ≡ false
-unfolding has_leap selection_items request_items answer_items success_items failure_items error_items done_items
-no-leap (Branch target absolute false) at built = refl
-no-leap SystemCall at built = refl
-no-leap _ at built = absurd built
-
 all-laid : (i : Instr) (at : ℕ) (ends : Bool) → IsBuilt i → IsLegal i → All IsLaid (items i at ends)
 all-laid i at ends built legal = by_flow (is_flow i) refl
   where
     by_flow : (b : Bool) → is_flow i ≡ b → All IsLaid (cond b (flow_tile i at no_registers) (straight i at ends))
-    by_flow true e = items-hold (flow_tile i at no_registers) (flow_tiles_are_laid i no_registers at legal is_map (has_tile i built e)) (no-leap i at (flow_word i built e))
+    by_flow true e = items-hold (flow_tile i at no_registers) (flow_tiles_are_laid i no_registers at legal is_map (has_tile i built e))
     by_flow false e = plain-hold (alu_tile i no_registers) _ (tiles_are_placeable i no_registers legal (straight_word i built e) is_map) (edge-holds ends (next_address at))
 
 -- the ops of a word that is no flow word, with the edge behind them

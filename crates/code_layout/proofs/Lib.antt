@@ -9,3 +9,4 @@ pub mod Laid
 pub mod Beginning
 pub mod Conditions
 pub mod Short
+pub mod Spelled

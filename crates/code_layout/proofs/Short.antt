@@ -16,20 +16,21 @@ use Rattle.base_alu.proofs.Tiles.{tiles_are_short}
 use Rattle.base_flow.specs.Tile.{tile as flow_tile}
 use Rattle.base_flow.proofs.Room.{flow_tiles_are_short}
 use Rattle.code_layout.specs.Built.{IsBuilt}
-use Rattle.code_layout.specs.Code.{no_registers, straight, items, items_length, item_length, jump_on, condition_of}
+use Rattle.code_layout.specs.Places.{no_registers, no_moves}
+use Rattle.code_layout.specs.Code.{straight, items, items_length, item_length, jump_on, condition_of}
 use Rattle.code_layout.proofs.BuiltWords.{straight_word}
 
-edge-length : (ends : Bool) (next : ℕ) → items_length (cond ends (Edge next ∷ []) []) ≤ 5
+edge-length : (ends : Bool) (next : ℕ) → items_length no_moves (cond ends (Edge next ∷ []) []) ≤ 5
 unfolding items_length
 edge-length true next = omega arith
 edge-length false next = omega arith
 
-length-append : (xs ys : List FlowOp) → items_length (xs ++ ys) ≡ items_length xs + items_length ys
+length-append : (xs ys : List FlowOp) → items_length no_moves (xs ++ ys) ≡ items_length no_moves xs + items_length no_moves ys
 unfolding items_length
 length-append [] ys = omega arith
 length-append (x ∷ xs) ys = omega (arith, length-append xs ys)
 
-plain-length : (ops : List Op) → items_length (map (λ op. Plain op) ops) ≡ spelled_bytes ops
+plain-length : (ops : List Op) → items_length no_moves (map (λ op. Plain op) ops) ≡ spelled_bytes ops
 unfolding items_length
 plain-length [] = omega arith
 plain-length (op ∷ ops) = let e = plain-length ops in omega (arith, e)
@@ -38,28 +39,28 @@ jump-length : (c : Option Condition) → length (spelling (jump_on c 0)) ≤ 6
 jump-length (Some c) = omega arith
 jump-length None = omega arith
 
-item-short : (item : FlowOp) → item_length item ≤ flow_room item
+item-short : (item : FlowOp) → item_length no_moves item ≤ flow_room item
 item-short (Plain op) = omega arith
 item-short (Jump code mark) = jump-length (condition_of code)
 item-short (Mark mark) = omega arith
 item-short (Edge target) = omega arith
 item-short Leap = omega arith
 
-flows-short : (items : List FlowOp) → items_length items ≤ flows_room items
+flows-short : (items : List FlowOp) → items_length no_moves items ≤ flows_room items
 unfolding items_length
 flows-short [] = omega arith
 flows-short (item ∷ items) = let a = item-short item in let b = flows-short items in omega (arith, a, b)
 
-straight-short : (ops : List Op) (ends : Bool) (next : ℕ) → spelled_bytes ops ≤ 631 → items_length (map (λ op. Plain op) ops ++ cond ends (Edge next ∷ []) []) ≤ 636
+straight-short : (ops : List Op) (ends : Bool) (next : ℕ) → spelled_bytes ops ≤ 631 → items_length no_moves (map (λ op. Plain op) ops ++ cond ends (Edge next ∷ []) []) ≤ 636
 straight-short ops ends next h = omega (arith, h, plain-length ops, edge-length ends next, length-append (map (λ op. Plain op) ops) (cond ends (Edge next ∷ []) []))
 
-each-short : (i : Instr) (at : ℕ) (ends : Bool) → IsBuilt i → IsLegal i → items_length (items i at ends) ≤ 636
+each-short : (i : Instr) (at : ℕ) (ends : Bool) → IsBuilt i → IsLegal i → items_length no_moves (items i at ends) ≤ 636
 each-short i at ends built legal = by_flow (is_flow i) refl
   where
-    by_flow : (b : Bool) → is_flow i ≡ b → items_length (cond b (flow_tile i at no_registers) (straight i at ends)) ≤ 636
+    by_flow : (b : Bool) → is_flow i ≡ b → items_length no_moves (cond b (flow_tile i at no_registers) (straight i at ends)) ≤ 636
     by_flow true e = omega (arith, flows-short (flow_tile i at no_registers), flow_tiles_are_short i no_registers at)
     by_flow false e = straight-short (alu_tile i no_registers) ends (next_address at) (tiles_are_short i no_registers legal (straight_word i built e)).1
 
-pub items-short : {E : Type 0} (i : Instr) (at : ℕ) (ends : Bool) (result : Result (Vec FlowOp Global) E) → IsBuilt i → IsLegal i → IfOk result (λ v. v.items ≡ items i at ends) → IfOk result (λ v. items_length v.items ≤ 636)
-items-short i at ends (Ok v) built legal made = subst (λ (xs : List FlowOp). items_length xs ≤ 636) (sym made) (each-short i at ends built legal)
+pub items-short : {E : Type 0} (i : Instr) (at : ℕ) (ends : Bool) (result : Result (Vec FlowOp Global) E) → IsBuilt i → IsLegal i → IfOk result (λ v. v.items ≡ items i at ends) → IfOk result (λ v. items_length no_moves v.items ≤ 636)
+items-short i at ends (Ok v) built legal made = subst (λ (xs : List FlowOp). items_length no_moves xs ≤ 636) (sym made) (each-short i at ends built legal)
 items-short i at ends (Err e) built legal made = tt

@@ -6,9 +6,9 @@ use Rattle.ppc_isa.specs.declared.instr.Instr.{Instr}
 use Rattle.ppc_isa.specs.declared.instr.Instr.TheVariants.{Branch}
 use Rattle.machines.specs.Guest.{branch_target}
 use Rattle.code_layout.specs.Blocks.{address_of, IsCut}
-use Rattle.code_layout.specs.Code.{is_flow}
+use Rattle.symbolic_tiles.specs.FlowWords.{is_flow}
 
--- b or sc: a block ends behind the word
+-- a block ends behind the word
 pub record IsFlowWord (word : ℕ) : Type 0 where
   pub instr : Instr
   pub spelled : IsWordOf word instr

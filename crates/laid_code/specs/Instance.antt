@@ -11,7 +11,7 @@ use Rattle.machines.specs.Agreement.{without, narrow_machine}
 pub use Rattle.code_words.specs.Words.{HasWords}
 use Rattle.simulation.specs.Setting.{Setting}
 use Rattle.code_layout.specs.Built.{IsBuiltWord}
-use Rattle.code_layout.specs.Code.{no_registers, entry_of}
+use Rattle.code_layout.specs.Places.{no_registers, entry_of}
 use Rattle.code_layout.specs.Layout.{IsCodeFor}
 
 -- where the table begins: behind the home page

@@ -15,7 +15,7 @@ use Rattle.machines.specs.Host.{Core, Host}
 use Rattle.symbolic_tiles.specs.Flow.{leap_target, Exit, Leaves, Leaps, Stops, Calls, Falls, IsBefore, IsBehind, FitsGoing, Fits, flow}
 use Rattle.symbolic_tiles.specs.Standing.{EdgeCode, Reaches}
 use Rattle.symbolic_tiles.proofs.Walked.{flows_are_walked}
-use Rattle.code_layout.specs.Code.{no_registers}
+use Rattle.code_layout.specs.Places.{no_registers}
 use Rattle.simulation.specs.Setting.{Setting, Stood, Alike, AreAlike, KeepsUnwrittenBy}
 use Rattle.simulation.specs.Plan.{EdgeAt, SwitchAt, LeapAt, DoorAt, FlowAt}
 use Rattle.simulation.specs.Relation.{Meets, leaving, IsTranslation}
@@ -171,5 +171,5 @@ module _ (s : Setting) (t : IsTranslation s) where
         in_range = full_in_range s map g h.core stood;
         is_core = stood.is_core;
       } in
-      by_exit s t map stood.is_map st.labels st.edges st.leaps st.edges_stand st.leaps_stand p q (length items) g h (executes s.guest word g) (executes s.guest word shown) (flow s.host s.area items None h.choices h.core) lt_p le_q st.few stood.unwritten (st.fetched g refl) (t.live word g shown st.fetched alike)
-      (st.fits shown h.core h.choices refl before) (flows_are_walked s.host s.area s.host_step st.labels st.edges st.leaps items None h.eip h st.stand refl)
+      by_exit s t map stood.is_map st.labels st.edges st.leaps st.edges_stand st.leaps_stand p q (length items) g h (executes s.guest word g) (executes s.guest word shown) (flow s.host s.area items None h.choices h.core) lt_p le_q st.tile.few stood.unwritten (st.tile.fetched g refl) (t.live word g shown st.tile.fetched alike)
+      (st.tile.fits shown h.core h.choices refl before) (flows_are_walked s.host s.area s.host_step st.labels st.edges st.leaps items None h.eip h st.stand refl)

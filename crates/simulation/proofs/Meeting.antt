@@ -6,7 +6,7 @@ use Rattle.runs.specs.Simulation.{Walks, stays, walks}
 use Rattle.runs.proofs.Walking.{join_walks}
 use Rattle.machines.specs.Guest.{Guest}
 use Rattle.machines.specs.Host.{Host}
-use Rattle.code_layout.specs.Code.{no_registers}
+use Rattle.code_layout.specs.Places.{no_registers}
 use Rattle.simulation.specs.Setting.{Setting, IsOffCode, Stood}
 use Rattle.simulation.specs.Plan.{PlanStep, Move, Tile, BranchTile, FlowTile, word_count, room, HasFewMoves, SwitchAt, DoorAt, BlockAt, Begins}
 use Rattle.simulation.specs.Relation.{Meets, inside, leaving, gone, IsTranslation, Starts, MeetingIsBounded, MeetingAdvances, Settled, in_block, holding, MeetingSettles}

@@ -88,7 +88,7 @@ module _ (s : Setting) (t : IsTranslation s) (from to : Map) (n : ℕ) (is_map :
   at_register m r e = ap (λ o. in_slot o (Memory (home_size n) (s.area + home n))) e
 
   -- from a register to its home
-  pub drops : (next r : ℕ) → slot_of from n ≡ Some r → slot_of to n ≡ None → IsMove s next from to (MovTo (Abs (s.area + home n)) r ∷ [])
+  pub drops : (next r : ℕ) → slot_of from n ≡ Some r → slot_of to n ≡ None → IsMove s next from to (MovTo (Abs (home n)) r ∷ [])
   drops next r ef et = record {
     short = omega arith;
     moves = λ g core choices at st.
@@ -99,7 +99,7 @@ module _ (s : Setting) (t : IsTranslation s) (from to : Map) (n : ℕ) (is_map :
   }
 
   -- and from its home to a register
-  pub takes : (next r : ℕ) → slot_of from n ≡ None → slot_of to n ≡ Some r → IsMove s next from to (MovFrom r (Abs (s.area + home n)) ∷ [])
+  pub takes : (next r : ℕ) → slot_of from n ≡ None → slot_of to n ≡ Some r → IsMove s next from to (MovFrom r (Abs (home n)) ∷ [])
   takes next r ef et = record {
     short = omega arith;
     moves = λ g core choices at st.

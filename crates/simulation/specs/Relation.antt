@@ -14,7 +14,7 @@ use Rattle.machines.specs.Guest.{Guest}
 use Rattle.machines.specs.Host.{Host}
 use Rattle.machines.specs.Representation.{IsHomePage, HasSegments}
 use Rattle.symbolic_tiles.specs.Row.{WritesHeld}
-use Rattle.code_layout.specs.Code.{no_registers}
+use Rattle.code_layout.specs.Places.{no_registers}
 use Rattle.simulation.specs.Setting.{Setting, HasTable, IsOffCode, JumpsTo, Stood, KeepsUnwrittenBy, LiveIsEnough}
 use Rattle.simulation.specs.Plan.{PlanStep, word_count, room, HasFewMoves, IsMove, SwitchAt, DoorAt, BlockAt, Begins}
 
@@ -73,6 +73,6 @@ module _ (s : Setting) where
 abbrev pub MovesKeep : Type 0
 MovesKeep =
     (s : Setting) → IsTranslation s → (from to : Map) (n : ℕ) → IsMap to → n < 32 → ((x : ℕ) → x ≢ n → slot_of to x ≡ slot_of from x) → (next : ℕ) →
-    ((r : ℕ) → slot_of from n ≡ Some r → slot_of to n ≡ None → IsMove s next from to (MovTo (Abs (s.area + home n)) r ∷ []))
-    × ((r : ℕ) → slot_of from n ≡ None → slot_of to n ≡ Some r → IsMove s next from to (MovFrom r (Abs (s.area + home n)) ∷ []))
+    ((r : ℕ) → slot_of from n ≡ Some r → slot_of to n ≡ None → IsMove s next from to (MovTo (Abs (home n)) r ∷ []))
+    × ((r : ℕ) → slot_of from n ≡ None → slot_of to n ≡ Some r → IsMove s next from to (MovFrom r (Abs (home n)) ∷ []))
     × (s.live next n ≡ false → IsMove s next from to [])

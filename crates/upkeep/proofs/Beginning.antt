@@ -10,7 +10,7 @@ use Rattle.reg_map.specs.Home.{home, home_size, location_range}
 use Rattle.machines.specs.Memory.{load, update, first_bytes}
 use Rattle.machines.specs.Guest.{stack_start, guest_start}
 use Rattle.machines.specs.Host.{Choice, Core, choice_at, chosen_word, host_start}
-use Rattle.code_layout.specs.Code.{no_registers}
+use Rattle.code_layout.specs.Places.{no_registers}
 use Rattle.elf_emit.specs.Translation.{home_page}
 use Rattle.simulation.specs.Setting.{Stood}
 use Rattle.upkeep.specs.Loaded.{AreBytes, HaveBytes}

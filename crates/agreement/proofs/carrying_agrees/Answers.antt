@@ -11,7 +11,7 @@ use Rattle.machines.specs.Memory.{Rights, code_of, first_bytes}
 use Rattle.machines.specs.Guest.{guest_start}
 use Rattle.machines.specs.Host.{host_start}
 use Rattle.machines.specs.Agreement.{AgreesNarrowly}
-use Rattle.code_layout.specs.Code.{entry_of}
+use Rattle.code_layout.specs.Places.{entry_of}
 use Rattle.code_layout.specs.Layout.{IsCodeFor}
 use Rattle.code_words.specs.Words.{first_of}
 use Rattle.simulation.specs.Setting.{Setting}
