@@ -13,7 +13,7 @@ use symbolic_tiles::SymbolicOperand::Location;
 /// A tile, or no memory for it.
 pub(crate) type Tile = Result<Vec<SymbolicOp>, AllocError>;
 
-/// Whether the instruction has a tile here. So far addi has one, and add that doesn't record.
+/// Whether the instruction has a tile here.
 pub fn is_built(instr: &Instr) -> bool
     ensures { IsTrue result ↔ IsBuilt instr.now }
 {
