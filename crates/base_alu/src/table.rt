@@ -4,10 +4,10 @@ ghost use Rattle.std.specs.Prelude.{◌≡◌, ◌≢◌, ◌↔◌, ◌∷◌, 
 ghost use Rattle.base_alu.specs.Tile.{IsBuilt, symbolic_tile as symbolic_tile_of, through_eax as through_eax_of};
 
 use ia_codec::AluOp;
-use ppc_isa::{ArithmeticOp, ImmediateOp, Instr};
+use ppc_isa::{ArithmeticOp, ArithmeticUnaryOp, ImmediateOp, Instr, LogicImmediateOp, LogicOp};
 use reg_map::{EAX, signed_immediate};
 use std::alloc::{AllocError, Global};
-use symbolic_tiles::SymbolicOp::{self, Alu, AluImmediate, Mov, MovImmediate, Put};
+use symbolic_tiles::SymbolicOp::{self, Alu, AluImmediate, Mov, MovImmediate, Negate, Put};
 use symbolic_tiles::SymbolicOperand::Location;
 
 /// A tile, or no memory for it.
@@ -19,7 +19,13 @@ pub fn is_built(instr: &Instr) -> bool
 {
     match *instr {
         Instr::Immediate { op, .. } => matches!(op, ImmediateOp::Addi),
-        Instr::Arithmetic { op, records, .. } => !records && matches!(op, ArithmeticOp::Add),
+        Instr::LogicImmediate { op, .. } => matches!(op, LogicImmediateOp::Ori),
+        Instr::Arithmetic { op, records, .. } => {
+            !records && matches!(op, ArithmeticOp::Add | ArithmeticOp::Subf)
+        }
+        Instr::ArithmeticUnary { op, records, .. } => !records
+            && matches!(op, ArithmeticUnaryOp::Neg),
+        Instr::Logic { op, records, .. } => !records && matches!(op, LogicOp::Xor),
         _ => false,
     }
 }
@@ -36,8 +42,16 @@ pub fn symbolic_tile(alloc: Global, instr: &Instr) -> Tile
         Instr::Immediate { d, a, imm, .. } => add_immediate(alloc, d, a, signed_immediate(imm)),
         Instr::Arithmetic { op, d, a, b, .. } => match op {
             ArithmeticOp::Add => through_eax(alloc, a, Alu(AluOp::Add, EAX, Location(b)), d),
+            ArithmeticOp::Subf => through_eax(alloc, b, Alu(AluOp::Sub, EAX, Location(a)), d),
             _ => unreachable!(),
         },
+        Instr::LogicImmediate { s, a, imm, .. } => {
+            through_eax(alloc, s, AluImmediate(AluOp::Or, EAX, imm as u32), a)
+        }
+        Instr::ArithmeticUnary { d, a, .. } => through_eax(alloc, a, Negate(EAX), d),
+        Instr::Logic { s, a, b, .. } => {
+            through_eax(alloc, s, Alu(AluOp::Xor, EAX, Location(b)), a)
+        }
         _ => unreachable!(),
     }
 }
