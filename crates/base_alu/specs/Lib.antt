@@ -1,1 +1,2 @@
 pub mod Tile
+pub mod Laws

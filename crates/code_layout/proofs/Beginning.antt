@@ -3,7 +3,7 @@ use Rattle.std.proofs.Common.{◌≡◌, ◌<◌, ◌≤◌, ◌+◌, ℕ, ◌�
 use Rattle.std.proofs.lemmas.Bool.{cases_Bool, false≢true, and_left}
 use Rattle.std.proofs.lemmas.Grind.{common_steps}
 use Rattle.std.proofs.lemmas.List.{drop_all}
-use Rattle.base_flow.specs.declared.flow_op.FlowOp.{FlowOp}
+use Rattle.symbolic_tiles.specs.declared.flow_op.FlowOp.{FlowOp}
 use Rattle.code_layout.specs.Blocks.{begins_at, beginnings}
 use Rattle.code_layout.specs.Places.{no_moves}
 use Rattle.code_layout.specs.Code.{items_length}

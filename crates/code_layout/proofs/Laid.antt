@@ -3,7 +3,7 @@ use Rattle.std.proofs.Common.{◌≡◌, ◌≤◌, ◌<◌, ◌+◌, ◌↔◌,
 use Rattle.std.proofs.lemmas.List.{append-nil, drop_all}
 use Rattle.ppc_isa.specs.Legal.{IsWordOf}
 use Rattle.ppc_isa.specs.declared.instr.Instr.{Instr}
-use Rattle.base_flow.specs.declared.flow_op.FlowOp.{FlowOp}
+use Rattle.symbolic_tiles.specs.declared.flow_op.FlowOp.{FlowOp}
 use Rattle.code_layout.specs.Blocks.{address_of, IsSet, code_order}
 use Rattle.code_layout.specs.Places.{Places, no_moves, places_in}
 use Rattle.code_layout.specs.Code.{items, items_bytes, items_length}

@@ -10,7 +10,7 @@ use Rattle.ia_codec.specs.declared.op.Condition.{Condition}
 use Rattle.ia_codec.specs.declared.op.Op.{Op}
 use Rattle.ia_codec.specs.declared.op.Op.TheVariants.{AluTo, AluFrom, AluImm, TestReg, TestImm, Unary, Imul, MovTo, MovFrom, MovToImm, MovHalfTo, MovByteTo, MovByteFrom, Shift, ShiftByCl, Lea, Extend, Set, Cmov, Bsr, JmpTo}
 use Rattle.ia_codec.specs.Spelling.{modrm, dword, spelling, alu_number, shift_number, unary_number}
-use Rattle.base_flow.specs.declared.flow_op.FlowOp.{FlowOp}
+use Rattle.symbolic_tiles.specs.declared.flow_op.FlowOp.{FlowOp}
 use Rattle.code_layout.specs.Blocks.{address_of}
 use Rattle.code_layout.specs.Places.{Places, place_of, entry_of}
 use Rattle.code_layout.specs.Code.{jump_on, jump, condition_of, item_length, item_bytes, items_bytes}

@@ -1,8 +1,8 @@
 -- How many bytes items have.
 use Rattle.std.proofs.Common.{◌≡◌, ◌≤◌, ◌<◌, ◌+◌, ℕ, suc, take, true, false, List, [], ◌∷◌, length, get_or, drop, refl, ap, ◌∙◌, drop-cons, arith, rules}
 use Rattle.std.proofs.lemmas.Grind.{common_steps}
-use Rattle.base_flow.specs.declared.flow_op.FlowOp.{FlowOp}
-use Rattle.base_flow.specs.declared.flow_op.FlowOp.TheVariants.{Mark}
+use Rattle.symbolic_tiles.specs.declared.flow_op.FlowOp.{FlowOp}
+use Rattle.symbolic_tiles.specs.declared.flow_op.FlowOp.TheVariants.{Mark}
 use Rattle.code_layout.specs.Places.{no_moves}
 use Rattle.code_layout.specs.Code.{item_length, items_length, is_mark, before_mark}
 

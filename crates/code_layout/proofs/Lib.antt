@@ -1,3 +1,4 @@
+pub mod BuiltWords
 pub mod Bases
 pub mod LaidItems
 pub mod Cuts

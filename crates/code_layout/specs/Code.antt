@@ -13,10 +13,10 @@ use Rattle.code_layout.specs.Leap.{leap_ops}
 use Rattle.code_layout.specs.Places.{no_registers, Moves, Places}
 use Rattle.base_alu.specs.Tile.{tile as alu_tile}
 use Rattle.base_flow.specs.Tile.{tile as flow_tile}
-use Rattle.base_flow.specs.Target.{next_address}
-use Rattle.base_flow.specs.FlowWords.{is_flow}
-use Rattle.base_flow.specs.declared.flow_op.FlowOp.{FlowOp}
-use Rattle.base_flow.specs.declared.flow_op.FlowOp.TheVariants.{Plain, Jump, Mark, Edge, Leap}
+use Rattle.machines.specs.Guest.{behind as next_address}
+use Rattle.symbolic_tiles.specs.FlowWords.{is_flow}
+use Rattle.symbolic_tiles.specs.declared.flow_op.FlowOp.{FlowOp}
+use Rattle.symbolic_tiles.specs.declared.flow_op.FlowOp.TheVariants.{Plain, Jump, Mark, Edge, Leap}
 
 -- the tile of a word that is no flow word, with the edge to the next address where its block ends
 abbrev pub straight : Instr → ℕ → Bool → List FlowOp

@@ -10,10 +10,9 @@ ghost use Rattle.code_layout.specs.Leap.{leap_ops as leap_ops_of};
 ghost use Rattle.code_layout.specs.Places.{no_moves};
 ghost use Rattle.code_layout.specs.PlacesOf.{places_of};
 
-use crate::blocks::is_flow;
 use crate::built::instruction;
 use crate::places::Layout;
-use base_flow::{FlowOp, next_address};
+use base_flow::{FlowOp, is_flow, next_address};
 use ia_codec::{AluOp, Condition, Op, Operand, encode};
 use ppc_isa::{Instr, Map};
 use reg_map::{EAX, ECX};

@@ -13,15 +13,15 @@ use Rattle.ia_codec.specs.Spelling.{spelling}
 use Rattle.ia_codec.specs.declared.op.Op.{Op}
 use Rattle.base_alu.specs.Tile.{tile as alu_tile}
 use Rattle.base_flow.specs.Tile.{tile as flow_tile}
-use Rattle.base_flow.specs.declared.flow_op.FlowOp.{FlowOp}
-use Rattle.base_flow.specs.declared.flow_op.FlowOp.TheVariants.{Plain, Edge}
+use Rattle.symbolic_tiles.specs.declared.flow_op.FlowOp.{FlowOp}
+use Rattle.symbolic_tiles.specs.declared.flow_op.FlowOp.TheVariants.{Plain, Edge}
 use Rattle.runs.specs.Machine.{Ends}
 use Rattle.machines.specs.Memory.{rights_of, code_of}
 use Rattle.machines.specs.Readings.{Fetched, ReadsWords}
 use Rattle.machines.specs.Guest.{behind, effect_of, is_code_word, code_word, executes}
 use Rattle.machines.specs.Guest.{acts as guest_acts}
-use Rattle.tiles.specs.Row.{window_of}
-use Rattle.tiles.specs.Flow.{Fits, flow}
+use Rattle.symbolic_tiles.specs.Row.{window_of}
+use Rattle.symbolic_tiles.specs.Flow.{Fits, flow}
 use Rattle.simulation.specs.Setting.{Setting, IsWordAt}
 use Rattle.simulation.specs.Plan.{PlanStep, Tile, FlowTile, word_count, room, HasFewMoves}
 use Rattle.code_layout.specs.Blocks.{address_of, in_block, IsSet}
@@ -40,7 +40,7 @@ use Rattle.laid_code.proofs.Lengths.{bytes_length}
 use Rattle.laid_code.proofs.Laid.{LaidAt, items_at}
 use Rattle.laid_code.proofs.Cut.{NoneBetween, one_more, in_list, block_is_short}
 use Rattle.laid_code.proofs.Rows.{IsStraightWord, IsFlowingWord, straight_tile, straight_leads, Kind, straight as straight_kind, flowing, kind_of}
-use Rattle.tiles.proofs.FlowRows.{programs_write_held}
+use Rattle.symbolic_tiles.proofs.PlaceLaws.{programs_write_held}
 
 -- ops before other items
 plain_bytes : (p : Places) (here : ℕ) (ops : List Op) (rest : List FlowOp) → items_bytes p here (plain ops ++ rest) ≡ items_bytes p here (plain ops) ++ items_bytes p (here + items_length p.switch (plain ops)) rest

@@ -12,7 +12,7 @@ use Rattle.runs.specs.Machine.{Goes, Ends}
 use Rattle.machines.specs.Memory.{Code, is_code}
 use Rattle.machines.specs.Readings.{Fetched}
 use Rattle.machines.specs.Host.{acts, executes, op_bytes}
-use Rattle.tiles.specs.Standing.{StandsAt}
+use Rattle.symbolic_tiles.specs.Standing.{StandsAt}
 use Rattle.simulation.specs.Setting.{Setting, JumpsTo}
 use Rattle.laid_code.specs.Bytes.{HasBytes, RunsCode}
 

@@ -12,14 +12,14 @@ use Rattle.ia_codec.specs.declared.op.Op.{Op}
 use Rattle.ia_codec.specs.declared.op.Op.TheVariants.{Jcc, Jmp, JmpTo}
 use Rattle.ia_codec.specs.declared.op.Operand.TheVariants.{Base}
 use Rattle.ppc_isa.specs.declared.map.Map.{Map}
-use Rattle.base_flow.specs.declared.flow_op.FlowOp.{FlowOp}
-use Rattle.base_flow.specs.declared.flow_op.FlowOp.TheVariants.{Plain, Jump, Mark, Edge, Leap}
+use Rattle.symbolic_tiles.specs.declared.flow_op.FlowOp.{FlowOp}
+use Rattle.symbolic_tiles.specs.declared.flow_op.FlowOp.TheVariants.{Plain, Jump, Mark, Edge, Leap}
 use Rattle.runs.specs.Machine.{Goes}
 use Rattle.machines.specs.Memory.{Code}
 use Rattle.machines.specs.Readings.{Fetched}
 use Rattle.machines.specs.Host.{Host}
-use Rattle.tiles.specs.Flow.{is_taken}
-use Rattle.tiles.specs.Standing.{StandsAt, StandAt, EdgeCode, ItemsAt}
+use Rattle.symbolic_tiles.specs.Flow.{is_taken}
+use Rattle.symbolic_tiles.specs.Standing.{StandsAt, StandAt, EdgeCode, ItemsAt}
 use Rattle.simulation.specs.Setting.{Setting}
 use Rattle.simulation.specs.Plan.{SwitchAt, EdgeAt, LeapAt}
 use Rattle.code_layout.specs.Leap.{leap_ops}

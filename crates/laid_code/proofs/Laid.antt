@@ -21,7 +21,7 @@ both_true false y h = absurd (false≢true h)
 
 module _ (words : List ℕ) (p : Places) (code : Code) where
   -- the code word's items, and how many bytes they have
-  abbrev pub items_at : Laid → Instr → List Rattle.base_flow.specs.declared.flow_op.FlowOp.FlowOp
+  abbrev pub items_at : Laid → Instr → List Rattle.symbolic_tiles.specs.declared.flow_op.FlowOp.FlowOp
   items_at laid i = items i (address_of p.first laid.place) laid.ends
 
   -- from an address on stand the items of these words

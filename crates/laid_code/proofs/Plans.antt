@@ -4,12 +4,12 @@ use Rattle.ppc_isa.specs.declared.map.Map.{Map}
 use Rattle.ia_codec.specs.Spelling.{condition_number}
 use Rattle.ia_codec.specs.declared.op.Op.{Op}
 use Rattle.ia_codec.specs.declared.op.Condition.{Condition}
-use Rattle.base_flow.specs.declared.flow_op.FlowOp.{FlowOp}
-use Rattle.base_flow.specs.declared.flow_op.FlowOp.TheVariants.{Plain, Jump, Mark, Edge, Leap}
+use Rattle.symbolic_tiles.specs.declared.flow_op.FlowOp.{FlowOp}
+use Rattle.symbolic_tiles.specs.declared.flow_op.FlowOp.TheVariants.{Plain, Jump, Mark, Edge, Leap}
 use Rattle.runs.specs.Machine.{Goes}
 use Rattle.machines.specs.Memory.{Code}
 use Rattle.machines.specs.Readings.{Fetched}
-use Rattle.tiles.specs.Standing.{StandAt}
+use Rattle.symbolic_tiles.specs.Standing.{StandAt}
 use Rattle.code_layout.specs.Places.{Moves}
 use Rattle.code_layout.specs.Code.{ops_at, item_length, items_length, before_mark, items_bytes}
 use Rattle.simulation.specs.Windows.{behind_all}

@@ -1,24 +1,23 @@
 -- What tiles need of the instructions that translation is built for.
-use Rattle.std.proofs.Common.{◌≡◌, ℕ, ◌≤◌, Bool, true, false, cond, eqb, List, [], ◌∷◌, length, Some, refl, ap, ◌∙◌, subst, arith}
+use Rattle.std.proofs.Common.{◌≡◌, ℕ, ◌≤◌, Bool, true, false, cond, eqb, List, [], ◌∷◌, length, Some, inl, inr, refl, ap, ◌∙◌, subst, arith}
 use Rattle.ppc_isa.specs.Legal.{IsLegal}
 use Rattle.ppc_isa.specs.Map.{IsMap}
 use Rattle.ppc_isa.specs.declared.instr.Instr.{Instr}
-use Rattle.ppc_isa.specs.declared.instr.Instr.TheVariants.{Immediate, Arithmetic, Branch, SystemCall}
-use Rattle.ppc_isa.specs.declared.instr.ImmediateOp.TheVariants.{Addi}
-use Rattle.ppc_isa.specs.declared.instr.ArithmeticOp.TheVariants.{Add}
 use Rattle.ia_codec.specs.declared.op.Op.{Op}
 use Rattle.runs.specs.Machine.{Outcome, Goes, Asks, Ends}
 use Rattle.machines.specs.Memory.{Rights}
 use Rattle.machines.specs.Guest.{Guest, behind, acts, effect_of}
 use Rattle.base_alu.specs.Tile.{tile as alu_tile}
-use Rattle.base_flow.specs.FlowWords.{is_flow}
+use Rattle.symbolic_tiles.specs.FlowWords.{is_flow}
 use Rattle.base_flow.specs.Tile.{tile as flow_tile}
-use Rattle.tiles.specs.Row.{window_of, DoWindow}
-use Rattle.tiles.specs.Flow.{WritesHeld, FlowDoesRow}
-use Rattle.tiles.specs.Straight.{IsStraight}
-use Rattle.tiles.proofs.Rows.{tiles_do_rows}
-use Rattle.tiles.proofs.FlowRows.{flow_tiles_do_rows}
-use Rattle.tiles.proofs.Straight.{rows_are_straight, accesses_are_inside}
+use Rattle.symbolic_tiles.specs.Row.{window_of, DoWindow}
+use Rattle.symbolic_tiles.specs.Row.{WritesHeld}
+use Rattle.symbolic_tiles.specs.Flow.{FlowDoesWord}
+use Rattle.symbolic_tiles.specs.Straight.{IsStraight}
+use Rattle.base_alu.proofs.Straight.{built_are_straight}
+use Rattle.base_alu.proofs.Tiles.{tiles_do_rows, tiles_are_short}
+use Rattle.base_flow.proofs.Tiles.{built_have_tiles, flow_tiles_do_rows, flow_tiles_are_marked}
+use Rattle.symbolic_tiles.proofs.Straight.{rows_are_straight, accesses_are_inside}
 use Rattle.simulation.specs.Windows.{rows_of, IsQuiet}
 use Rattle.simulation.specs.Setting.{Setting, IsWordAt}
 use Rattle.simulation.specs.Plan.{IsTile, LeadsTo}
@@ -26,7 +25,7 @@ use Rattle.code_layout.specs.Built.{IsBuilt}
 use Rattle.code_layout.specs.Places.{no_registers}
 use Rattle.code_layout.specs.Code.{ops_at}
 use Rattle.laid_code.specs.Items.{AreMarked}
-use Rattle.laid_code.proofs.Marks.{marked_sc, few_sc}
+use Rattle.laid_code.proofs.Marks.{as_marked}
 
 pub is_map : IsMap no_registers
 is_map = record { ebx = tt; esi = tt; edi = tt; ebx_esi = tt; ebx_edi = tt; esi_edi = tt }
@@ -42,7 +41,7 @@ pub record IsFlowingWord (i : Instr) : Type 0 where
   pub flow : is_flow i ≡ true
   pub few : (at : ℕ) → length (flow_tile i at no_registers) ≤ 100
   pub marked : (at : ℕ) → AreMarked (flow_tile i at no_registers)
-  pub does : FlowDoesRow i no_registers (λ at. flow_tile i at no_registers)
+  pub does : FlowDoesWord (Some i) no_registers (λ at. flow_tile i at no_registers)
 
 -- the row of an instruction as the only one of its window
 one_row : (o : Outcome Guest) (rights : Rights) (i : Instr) (g : Guest) → acts rights i (effect_of i g) g ≡ o → o ≡ rows_of rights (i ∷ []) g
@@ -77,36 +76,22 @@ module _ (s : Setting) (writes_held : WritesHeld s.guest) (i : Instr) (word : Is
   pub straight_leads : (w : ℕ) → LeadsTo s w (i ∷ []) (λ g. behind w)
   straight_leads w g g' at e = subst (IsStraight (behind g.next)) (row_is g ∙ e) (rows_are_straight i s.guest g word.straight) ∙ ap behind at
 
-few_ops : (b : Bool) (x y : List Op) → length x ≤ 128 → length y ≤ 128 → length (cond b x y) ≤ 128
-few_ops true x y p q = p
-few_ops false x y p q = q
-
 -- each built instruction is the one or the other
 pub data Kind (i : Instr) : Type 0 where
   straight : IsStraightWord i → Kind i
   flowing : IsFlowingWord i → Kind i
 
 pub kind_of : (i : Instr) → IsBuilt i → IsLegal i → Kind i
-kind_of (Immediate Addi d a imm) built legal = straight (record {
-  straight = refl;
-  few = few_ops (eqb a 0) _ _ (omega arith) (omega arith);
-  does = λ area. tiles_do_rows (Immediate Addi d a imm) legal (omega (arith, legal.fit.1.0), omega (arith, legal.fit.1.1.0)) no_registers area is_map;
+kind_of i (inl built) legal = straight (record {
+  straight = built_are_straight i built;
+  few = (tiles_are_short i no_registers legal built).0;
+  does = λ area. tiles_do_rows i legal built no_registers area is_map;
 })
-kind_of (Arithmetic Add d a b false) built legal = straight (record {
-  straight = refl;
-  few = omega arith;
-  does = λ area. tiles_do_rows (Arithmetic Add d a b false) legal (omega (arith, legal.fit.1.0), omega (arith, legal.fit.1.1.0), omega (arith, legal.fit.1.1.1.0)) no_registers area is_map;
-})
-kind_of (Branch target absolute false) built legal = flowing (record {
-  flow = refl;
-  few = λ at. omega arith;
-  marked = λ at. tt;
-  does = flow_tiles_do_rows (Branch target absolute false) no_registers (omega (arith, legal.fit.1.0));
-})
-kind_of SystemCall built legal = flowing (record {
-  flow = refl;
-  few = λ at. omega (arith, few_sc (behind at));
-  marked = λ at. marked_sc (behind at);
-  does = flow_tiles_do_rows SystemCall no_registers (refl, refl, refl);
-})
-kind_of _ built legal = absurd built
+kind_of i (inr built) legal =
+    let has = built_have_tiles i no_registers built refl in
+    flowing (record {
+      flow = has.0;
+      few = λ at. let m = flow_tiles_are_marked i no_registers at in omega (arith, m.1);
+      marked = λ at. as_marked (flow_tile i at no_registers) (flow_tiles_are_marked i no_registers at).0;
+      does = flow_tiles_do_rows i no_registers legal is_map has;
+    })

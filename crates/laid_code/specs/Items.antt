@@ -2,15 +2,15 @@
 use Rattle.std.specs.Prelude.{◌≡◌, ℕ, ◌+◌, ◌*◌, ◌^◌, ◌<◌, ◌≤◌, ◌⊎◌, Bool, true, false, ◌||◌, List, [], ◌∷◌, length}
 use Rattle.ia_codec.specs.Spelling.{condition_number}
 use Rattle.ia_codec.specs.declared.op.Condition.{Condition}
-use Rattle.base_flow.specs.declared.flow_op.FlowOp.{FlowOp}
-use Rattle.base_flow.specs.declared.flow_op.FlowOp.TheVariants.{Jump, Mark, Edge, Leap}
+use Rattle.symbolic_tiles.specs.declared.flow_op.FlowOp.{FlowOp}
+use Rattle.symbolic_tiles.specs.declared.flow_op.FlowOp.TheVariants.{Jump, Mark, Edge, Leap}
 use Rattle.ppc_isa.specs.declared.map.Map.{Map}
 use Rattle.ia_codec.specs.declared.op.Op.{Op}
 use Rattle.code_layout.specs.Places.{Moves, Places}
 use Rattle.code_layout.specs.Code.{IsPlaceable, item_length, is_mark, before_mark}
 use Rattle.simulation.specs.Setting.{Setting}
 use Rattle.simulation.specs.Plan.{IsMove}
-use Rattle.tiles.specs.Standing.{EdgeCode}
+use Rattle.symbolic_tiles.specs.Standing.{EdgeCode}
 
 -- each op is in the profile over each home page
 abbrev pub ArePlaceable : List Op → Type 0

@@ -3,13 +3,13 @@ use Rattle.std.specs.Prelude.{◌≡◌, ℕ, ◌+◌, ◌-◌, ◌%◌, ◌^◌
 use Rattle.ia_codec.specs.Spelling.{spelling, IsInProfile}
 use Rattle.ia_codec.specs.declared.op.Op.{Op}
 use Rattle.ia_codec.specs.declared.op.Op.TheVariants.{Jmp}
-use Rattle.base_flow.specs.declared.flow_op.FlowOp.{FlowOp}
+use Rattle.symbolic_tiles.specs.declared.flow_op.FlowOp.{FlowOp}
 use Rattle.machines.specs.Memory.{Code}
 use Rattle.ppc_isa.specs.declared.map.Map.{Map}
 use Rattle.ppc_isa.specs.declared.instr.Instr.{Instr}
 use Rattle.space.specs.declared.program.Program.{Program}
 use Rattle.machines.specs.Readings.{Fetched, ReadsWords, ReadsOps}
-use Rattle.tiles.specs.Standing.{StandsAt, EdgeCode, ItemsAt}
+use Rattle.symbolic_tiles.specs.Standing.{StandsAt, EdgeCode, ItemsAt}
 use Rattle.simulation.specs.Setting.{Setting, HasTable, IsOffCode, JumpsTo}
 use Rattle.simulation.specs.Plan.{PlanStep, EdgeAt, LeapAt, BlockAt, Begins}
 use Rattle.code_layout.specs.Places.{Moves}

@@ -17,14 +17,15 @@ use Rattle.machines.specs.Memory.{rights_of, code_of}
 use Rattle.machines.specs.Readings.{Fetched, ReadsWords, ReadsOps}
 use Rattle.machines.specs.Guest.{behind, is_code_word, code_word, executes}
 use Rattle.machines.specs.Representation.{IsHomePage}
-use Rattle.tiles.specs.Flow.{Fits, flow}
-use Rattle.tiles.proofs.Rows.{tiles_do_rows}
-use Rattle.tiles.proofs.FlowRows.{flow_tiles_do_rows, programs_write_held}
+use Rattle.symbolic_tiles.specs.Flow.{Fits, flow}
+use Rattle.base_alu.proofs.Tiles.{tiles_do_rows}
+use Rattle.base_flow.proofs.Tiles.{flow_tiles_do_rows}
+use Rattle.symbolic_tiles.proofs.PlaceLaws.{programs_write_held}
 use Rattle.code_layout.specs.Places.{no_registers}
 use Rattle.code_layout.specs.Code.{IsPlaceable, IsLaid}
 use Rattle.std.proofs.lemmas.List.Elements.{All-from_recursion}
-use Rattle.base_flow.specs.Target.{next_address}
-use Rattle.base_flow.specs.declared.flow_op.FlowOp.TheVariants.{Edge, Leap}
+use Rattle.machines.specs.Guest.{behind as next_address}
+use Rattle.symbolic_tiles.specs.declared.flow_op.FlowOp.TheVariants.{Edge, Leap}
 use Rattle.ia_codec.specs.declared.op.Op.{Op}
 use Rattle.machines.specs.Guest.{Guest}
 use Rattle.code_layout.proofs.LaidItems.{items-laid}
@@ -38,7 +39,7 @@ use Rattle.laid_code.proofs.Blocks.{plain_laid}
 use Rattle.laid_code.proofs.Rows.{is_map, IsStraightWord, straight_tile, straight_leads}
 use Rattle.upkeep.specs.Written.{narrow_rights}
 use Rattle.plan_example.specs.Example.{program, translation, adds, back, in_ebx, in_esi, from_none, from_esi, from_ebx, both_adds, one, behind_one, first_plan, last_plan, second_plan, third_plan, area, hold, first_block, last_block, second_block, third_block, adapter, target}
-use Rattle.plan_example.proofs.Words.{legal_adds, word_1, word_2, word_3, word_4, which}
+use Rattle.plan_example.proofs.Words.{legal_adds, legal_back, word_1, word_2, word_3, word_4, which}
 use Rattle.plan_example.proofs.Window.{after, goes_same, adds_five}
 use Rattle.plan_example.proofs.Setting.{s, word_at, off_code, are_placed, runs, first_stands, last_stands, second_stands, third_stands, adapter_stands}
 
@@ -79,10 +80,10 @@ off_target w off = rw (not_at 0x10000 refl, not_at 0x10004 refl, not_at 0x10008 
     not_at k on = ne_eqb w k (λ e. false≢true (sym off ∙ ap (λ (a : ℕ). is_code_word (code_of program) a) e ∙ on))
 
 straight_adds : (n : ℕ) → n < 2 ^ 16 → IsStraightWord (adds n)
-straight_adds n small = record { straight = refl; few = omega arith; does = λ area. tiles_do_rows (adds n) (legal_adds n small) (omega arith, omega arith) no_registers area is_map }
+straight_adds n small = record { straight = refl; few = omega arith; does = λ area. tiles_do_rows (adds n) (legal_adds n small) tt no_registers area is_map }
 
 tile_placeable : (n : ℕ) → n < 2 ^ 16 → ArePlaceable (alu_tile (adds n) no_registers)
-tile_placeable n small = plain_laid (alu_tile (adds n) no_registers) (Edge (next_address 0) ∷ []) (items-laid (adds n) 0 true _ tt (legal_adds n small) refl)
+tile_placeable n small = plain_laid (alu_tile (adds n) no_registers) (Edge (next_address 0) ∷ []) (items-laid (adds n) 0 true _ (inl tt) (legal_adds n small) refl)
 
 module _ (reading : ℕ → Option Instr) (ops : List ℕ → Option Fetched) (reads_words : ReadsWords reading) (reads_ops : ReadsOps ops) (moves : MovesKeep) (plans : PlansStand) (page : IsHomePage area (rights_of program) (narrow_rights translation)) where
   -- the moves of r3
@@ -158,7 +159,7 @@ module _ (reading : ℕ → Option Instr) (ops : List ℕ → Option Fetched) (r
     record {
       few = omega arith;
       fetched = word_at reading ops reads_words 0x1000C 0x4BFFFFF4 back refl refl word_4;
-      fits = λ g core choices at before. subst (λ (w : ℕ). Fits in_ebx area (rights_of program) core (executes (rights_of program) (Some back) g) (flow (narrow_rights translation) area (flow_tile back w in_ebx) None choices core)) at (flow_tiles_do_rows back in_ebx (omega arith) area (rights_of program) (narrow_rights translation) g core choices before);
+      fits = λ g core choices at before. subst (λ (w : ℕ). Fits in_ebx area (rights_of program) core (executes (rights_of program) (Some back) g) (flow (narrow_rights translation) area (flow_tile back w in_ebx) None choices core)) at (flow_tiles_do_rows back in_ebx legal_back ebx_map (refl, tt) area (rights_of program) (narrow_rights translation) g core choices before);
     },
     All-from_recursion IsLaid (flow_tile back 0x1000C in_ebx) (tt, tt),
     tt,

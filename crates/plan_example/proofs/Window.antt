@@ -12,8 +12,8 @@ use Rattle.machines.specs.Memory.{update}
 use Rattle.machines.specs.Guest.{Guest, behind}
 use Rattle.machines.specs.Host.{Core, Memory, value_at}
 use Rattle.machines.specs.Representation.{in_slot, location_place, AreInRange}
-use Rattle.tiles.specs.Row.{IsDone, DoWindow}
-use Rattle.tiles.proofs.Memory.{update_other, update_keeps}
+use Rattle.symbolic_tiles.specs.Row.{IsDone, DoWindow}
+use Rattle.symbolic_tiles.proofs.Memory.{update_other, update_keeps}
 use Rattle.plan_example.specs.Example.{in_esi, both_adds}
 
 -- the guest behind both words

@@ -16,7 +16,7 @@ use Rattle.reg_map.specs.Registers.{ebx, esi}
 use Rattle.reg_map.specs.Home.{gpr_home}
 use Rattle.base_alu.specs.Tile.{tile as alu_tile}
 use Rattle.base_flow.specs.Tile.{tile as flow_tile}
-use Rattle.tiles.specs.Row.{Window, window_of}
+use Rattle.symbolic_tiles.specs.Row.{Window, window_of}
 use Rattle.code_layout.specs.Places.{no_registers, Moves, Places}
 use Rattle.code_layout.specs.Code.{items_bytes}
 use Rattle.simulation.specs.Windows.{rows_of}

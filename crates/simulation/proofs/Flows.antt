@@ -7,14 +7,14 @@ use Rattle.ppc_isa.specs.declared.map.Map.{Map}
 use Rattle.ppc_isa.specs.declared.instr.Instr.{Instr}
 use Rattle.ppc_isa.specs.Map.{IsMap}
 use Rattle.reg_map.specs.Home.{location_range}
-use Rattle.base_flow.specs.declared.flow_op.FlowOp.{FlowOp}
+use Rattle.symbolic_tiles.specs.declared.flow_op.FlowOp.{FlowOp}
 use Rattle.runs.specs.Machine.{Outcome, Goes, Asks, Ends, Anywhere}
 use Rattle.runs.specs.Simulation.{Walks, stays, walks, onward, called, over, lost}
 use Rattle.machines.specs.Guest.{Guest, executes}
 use Rattle.machines.specs.Host.{Core, Host}
-use Rattle.tiles.specs.Flow.{leap_target, Exit, Leaves, Leaps, Stops, Calls, Falls, IsBefore, IsBehind, FitsGoing, Fits, flow}
-use Rattle.tiles.specs.Standing.{EdgeCode, Reaches}
-use Rattle.tiles.proofs.Walked.{flows_are_walked}
+use Rattle.symbolic_tiles.specs.Flow.{leap_target, Exit, Leaves, Leaps, Stops, Calls, Falls, IsBefore, IsBehind, FitsGoing, Fits, flow}
+use Rattle.symbolic_tiles.specs.Standing.{EdgeCode, Reaches}
+use Rattle.symbolic_tiles.proofs.Walked.{flows_are_walked}
 use Rattle.code_layout.specs.Places.{no_registers}
 use Rattle.simulation.specs.Setting.{Setting, Stood, Alike, AreAlike, KeepsUnwrittenBy}
 use Rattle.simulation.specs.Plan.{EdgeAt, SwitchAt, LeapAt, DoorAt, FlowAt}

@@ -8,7 +8,7 @@ use Rattle.runs.specs.Simulation.{Walks, stays, walks}
 use Rattle.machines.specs.Guest.{Guest}
 use Rattle.machines.specs.Host.{Core, Host, value_at}
 use Rattle.machines.specs.Representation.{location_place, Represents, AreInRange}
-use Rattle.tiles.specs.Row.{GoesThrough, Any}
+use Rattle.symbolic_tiles.specs.Row.{GoesThrough, Any}
 use Rattle.simulation.specs.Setting.{Setting, Stood, Alike, KeepsUnwrittenBy}
 
 -- the guest with the values that the places have, and beyond the locations its own

@@ -15,15 +15,15 @@ use Rattle.machines.specs.Memory.{update, load, each_byte}
 use Rattle.machines.specs.Guest.{Guest}
 use Rattle.machines.specs.Host.{Choice, Core, Host, Memory, value_at, reads, jumps_to}
 use Rattle.machines.specs.Representation.{in_slot, location_place}
-use Rattle.tiles.specs.Row.{IsCore}
-use Rattle.tiles.specs.Flow.{leap_target}
+use Rattle.symbolic_tiles.specs.Row.{IsCore}
+use Rattle.symbolic_tiles.specs.Flow.{leap_target}
 use Rattle.code_layout.specs.Leap.{leap_ops}
 use Rattle.simulation.specs.Setting.{Setting, Stood}
 use Rattle.simulation.specs.Plan.{LeapAt}
 use Rattle.simulation.specs.Relation.{IsTranslation}
-use Rattle.tiles.proofs.Memory.{load_same, update_keeps}
-use Rattle.tiles.proofs.Places.{slot_cached, each_of}
-use Rattle.tiles.proofs.Walked.{ops_are_walked}
+use Rattle.symbolic_tiles.proofs.Memory.{load_same, update_keeps}
+use Rattle.symbolic_tiles.proofs.Places.{slot_cached, each_of}
+use Rattle.symbolic_tiles.proofs.Walked.{ops_are_walked}
 use Rattle.simulation.proofs.Full.{walk_keeps, IsUnwritten}
 
 -- CF tells an unsigned comparison

@@ -12,13 +12,13 @@ use Rattle.machines.specs.Guest.{Guest}
 use Rattle.machines.specs.Host.{Choice, Core, Place, Register, Memory, value_at, put_at, reads, puts, bind}
 use Rattle.machines.specs.Host.{goes_to as host_goes_to}
 use Rattle.machines.specs.Representation.{in_slot, location_place, IsHomePage}
-use Rattle.tiles.specs.Perform.{core_behind, perform}
-use Rattle.tiles.specs.Row.{GoesThrough, IsCore}
+use Rattle.symbolic_tiles.specs.Perform.{core_behind, perform}
+use Rattle.symbolic_tiles.specs.Row.{GoesThrough, IsCore}
 use Rattle.simulation.specs.Setting.{Setting, Stood}
 use Rattle.simulation.specs.Plan.{IsMove}
 use Rattle.simulation.specs.Relation.{MovesKeep}
-use Rattle.tiles.proofs.Memory.{update_keeps, store_other, store_byte, load_word}
-use Rattle.tiles.proofs.Places.{home_within, put_same, put_other, place_apart, place_fits, place_bytes, read_place, write_place}
+use Rattle.symbolic_tiles.proofs.Memory.{update_keeps, store_other, store_byte, load_word}
+use Rattle.symbolic_tiles.proofs.Places.{home_within, put_same, put_other, place_apart, place_fits, place_bytes, read_place, write_place}
 
 is_same : (y x : ℕ) → (y ≡ x) ⊎ (y ≢ x)
 is_same y x = grind arith

@@ -7,9 +7,9 @@ use Rattle.runs.specs.Machine.{Anywhere, reported, run}
 use Rattle.runs.specs.Simulation.{Walks, stays, walks, Advance, onward, lost}
 use Rattle.machines.specs.Guest.{Guest}
 use Rattle.machines.specs.Host.{Choice, Core, Host}
-use Rattle.tiles.specs.Perform.{perform}
-use Rattle.tiles.specs.Standing.{StandAt}
-use Rattle.tiles.proofs.Walked.{ops_are_walked}
+use Rattle.symbolic_tiles.specs.Perform.{perform}
+use Rattle.symbolic_tiles.specs.Standing.{StandAt}
+use Rattle.symbolic_tiles.proofs.Walked.{ops_are_walked}
 use Rattle.code_layout.specs.Code.{op_at, ops_at}
 use Rattle.simulation.specs.Setting.{Setting, IsOffCode, JumpsTo, Stood}
 use Rattle.simulation.specs.Plan.{PlanStep, Move, word_count, room, HasFewMoves, IsMove, SwitchAt, BlockAt, Begins}

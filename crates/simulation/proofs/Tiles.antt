@@ -11,9 +11,9 @@ use Rattle.runs.specs.Simulation.{Walks, stays, walks, onward, lost}
 use Rattle.runs.proofs.Walking.{join_walks}
 use Rattle.machines.specs.Guest.{Guest}
 use Rattle.machines.specs.Host.{Choice, Core, Host}
-use Rattle.tiles.specs.Perform.{perform}
-use Rattle.tiles.specs.Row.{Window, IsReady, IsDone}
-use Rattle.tiles.proofs.Walked.{ops_are_walked}
+use Rattle.symbolic_tiles.specs.Perform.{perform}
+use Rattle.symbolic_tiles.specs.Row.{Window, IsReady, IsDone}
+use Rattle.symbolic_tiles.proofs.Walked.{ops_are_walked}
 use Rattle.simulation.specs.Windows.{rows_of, behind_all}
 use Rattle.code_layout.specs.Code.{op_at, ops_at}
 use Rattle.simulation.specs.Setting.{Setting, Stood}
@@ -49,6 +49,7 @@ module _ (s : Setting) (t : IsTranslation s) where
       let outcome : window.outcome s.guest shown ≡ Goes other.0 = tile.0.rows shown ∙ other.1 in
       let ready : IsReady window map s.area s.guest s.host shown h.core = record {
         page = t.page;
+        writes_held = t.writes_held;
         loads = λ a c. t.segments.held a (tile.0.inside.loads shown other.0 a outcome c);
         stores = λ a c. let w = tile.0.inside.stores shown other.0 a outcome c in t.segments.writable a w.0 ∙ w.1;
         represents = full_represents s map g h.core stood;

@@ -7,14 +7,14 @@ use Rattle.ia_codec.specs.declared.op.Condition.{Condition}
 use Rattle.ia_codec.specs.declared.op.Condition.TheVariants.{NotBelow}
 use Rattle.ia_codec.specs.declared.op.Operand.TheVariants.{Base}
 use Rattle.ia_codec.specs.declared.op.Op.TheVariants.{JmpTo}
-use Rattle.base_flow.specs.declared.flow_op.FlowOp.{FlowOp}
+use Rattle.symbolic_tiles.specs.declared.flow_op.FlowOp.{FlowOp}
 use Rattle.runs.specs.Machine.{Goes}
 use Rattle.machines.specs.Guest.{Guest, executes, behind}
 use Rattle.machines.specs.Host.{Choice, Core}
-use Rattle.tiles.specs.Perform.{perform}
-use Rattle.tiles.specs.Row.{Window, GoesThrough, DoWindow}
-use Rattle.tiles.specs.Flow.{IsBefore, Fits, flow}
-use Rattle.tiles.specs.Standing.{StandsAt, StandAt, EdgeCode, ItemsAt}
+use Rattle.symbolic_tiles.specs.Perform.{perform}
+use Rattle.symbolic_tiles.specs.Row.{Window, GoesThrough, DoWindow}
+use Rattle.symbolic_tiles.specs.Flow.{IsBefore, Fits, flow}
+use Rattle.symbolic_tiles.specs.Standing.{StandsAt, StandAt, EdgeCode, ItemsAt}
 use Rattle.simulation.specs.Windows.{rows_of, behind_all, IsLinked}
 use Rattle.code_layout.specs.Leap.{leap_ops}
 use Rattle.code_layout.specs.Places.{no_registers}

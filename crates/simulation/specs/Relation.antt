@@ -13,7 +13,7 @@ use Rattle.runs.specs.Simulation.{IsBounded, Advances, Walks}
 use Rattle.machines.specs.Guest.{Guest}
 use Rattle.machines.specs.Host.{Host}
 use Rattle.machines.specs.Representation.{IsHomePage, HasSegments}
-use Rattle.tiles.specs.Flow.{WritesHeld}
+use Rattle.symbolic_tiles.specs.Row.{WritesHeld}
 use Rattle.code_layout.specs.Places.{no_registers}
 use Rattle.simulation.specs.Setting.{Setting, HasTable, IsOffCode, JumpsTo, Stood, KeepsUnwrittenBy, LiveIsEnough}
 use Rattle.simulation.specs.Plan.{PlanStep, word_count, room, HasFewMoves, IsMove, SwitchAt, DoorAt, BlockAt, Begins}

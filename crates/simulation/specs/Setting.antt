@@ -13,7 +13,7 @@ use Rattle.machines.specs.Memory.{Rights, load}
 use Rattle.machines.specs.Guest.{Guest, executes}
 use Rattle.machines.specs.Host.{Core, Host, value_at}
 use Rattle.machines.specs.Representation.{location_place, Represents}
-use Rattle.tiles.specs.Row.{IsCore}
+use Rattle.symbolic_tiles.specs.Row.{IsCore}
 
 -- What no step changes: the rights to memory, the home page's address, the bytes that the written file lays out, both
 -- machines, where `hold` stands; for each guest address the register map under which the block there begins and the

@@ -11,7 +11,7 @@ use Rattle.machines.specs.Memory.{Rights, Code, code_in, is_code, is_held, is_wr
 use Rattle.machines.specs.Agreement.{without}
 use Rattle.machines.specs.Representation.{IsHomePage, HasSegments}
 use Rattle.machines.proofs.Tests.{both}
-use Rattle.tiles.proofs.FlowRows.{programs_write_held}
+use Rattle.symbolic_tiles.proofs.PlaceLaws.{programs_write_held}
 use Rattle.elf_emit.specs.Translation.{home_page}
 use Rattle.upkeep.specs.Written.{as_data, home_segment, table_segment, code_segment, written_segments, IsWritten, narrow_rights, host_code, WrittenIsInPlace}
 use Rattle.upkeep.proofs.Page.{page_length}

@@ -8,7 +8,7 @@ use Rattle.machines.specs.Guest.{guest_start}
 use Rattle.machines.specs.Host.{Choice, host_start}
 use Rattle.machines.specs.Agreement.{without}
 use Rattle.machines.specs.Representation.{IsHomePage, HasSegments}
-use Rattle.tiles.specs.Flow.{WritesHeld}
+use Rattle.symbolic_tiles.specs.Row.{WritesHeld}
 use Rattle.elf_emit.specs.Translation.{home_page}
 use Rattle.simulation.specs.Setting.{Setting}
 use Rattle.simulation.specs.Relation.{Starts}
