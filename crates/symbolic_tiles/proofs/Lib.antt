@@ -17,3 +17,4 @@ pub mod Relates
 pub mod FlowDone
 pub mod Placeable
 pub mod Straight
+pub mod TileOf
