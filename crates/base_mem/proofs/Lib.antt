@@ -1,0 +1,5 @@
+pub mod Accesses
+pub mod AccessTiles
+pub mod Many
+pub mod RegisterLoops
+pub mod Tiles
