@@ -1,5 +1,5 @@
 -- Tiles of compares.
-use Rattle.std.proofs.Common.{◌≡◌, ℕ, ◌+◌, ◌^◌, ◌<◌, ◌≤◌, Bool, true, false, eqb, List, ◌++◌, refl, sym, ap, ◌∙◌, subst, arith, length}
+use Rattle.std.proofs.Common.{◌≡◌, ℕ, ◌+◌, ◌^◌, ◌<◌, ◌≤◌, Bool, true, false, eqb, List, ◌++◌, refl, sym, ap, ◌∙◌, subst, arith}
 use Rattle.word_kit.specs.Words.{is_less, sign_extended}
 use Rattle.ppc_isa.specs.declared.instr.Instr.{Instr}
 use Rattle.ppc_isa.specs.declared.instr.Instr.TheVariants.{CompareImmediate, Compare}
@@ -17,7 +17,7 @@ use Rattle.machines.specs.Memory.{update, Rights}
 use Rattle.machines.specs.Guest.{Guest, effect_of, acts, onward, put_cr, cr_word}
 use Rattle.machines.specs.Host.{Choice}
 use Rattle.machines.specs.Representation.{AreInRange}
-use Rattle.symbolic_tiles.specs.Tiles.{IsTileOf}
+use Rattle.symbolic_tiles.specs.Tiles.{IsTileOf, room_of}
 use Rattle.symbolic_tiles.specs.declared.symbolic_op.SymbolicOp.{SymbolicOp}
 use Rattle.symbolic_tiles.specs.SymbolicOps.{AreWellFormed}
 use Rattle.symbolic_tiles.specs.Recording.{field_ops}
@@ -48,11 +48,11 @@ module _ (i : Instr) (f : ℕ) (s : Bool) (x y : Guest → ℕ) (lf : f < 8) whe
   abbrev pub compares : Guest → Guest
   compares g = onward (put_cr (with_field (cr_word g.locs) f (is_less (x g) (y g) s) (is_less (y g) (x g) s) (eqb (x g) (y g)) (so (values_in i g))) g.locs) g
 
-  pub compare_does : (ops : List SymbolicOp) → IsLegal i → AreWellFormed ops → length (ops ++ field_ops f (less_condition s)) ≤ 128 → ((guest : Rights) (g : Guest) → acts guest i (effect_of i g) g ≡ Goes (compares g)) →
+  pub compare_does : (ops : List SymbolicOp) → IsLegal i → AreWellFormed ops → room_of (ops ++ field_ops f (less_condition s)) ≤ 631 → ((guest : Rights) (g : Guest) → acts guest i (effect_of i g) g ≡ Goes (compares g)) →
       ((guest host : Rights) (g : Guest) (regs : ℕ → ℕ) (flags : Flags) (choices : List Choice) → AreInRange g → (x g < 2 ^ 32) × (y g < 2 ^ 32) × Then (HasFlags (x g) (y g) g) (execute_ops guest host ops choices (state_of g regs flags))) →
       IsTileOf i (ops ++ field_ops f (less_condition s))
-  compare_does ops legal are few row run =
-      ops_are_tile i (ops ++ field_ops f (less_condition s)) legal (both_ops ops (field_ops f (less_condition s)) are (field_are_ops f (less_condition s) lf)) few
+  compare_does ops legal are short row run =
+      ops_are_tile i (ops ++ field_ops f (less_condition s)) legal (both_ops ops (field_ops f (less_condition s)) are (field_are_ops f (less_condition s) lf)) short
       (λ guest g g' range leads. subst (λ h. (z : ℕ) → 34 ≤ z → z < 46 → h.locs z < location_range z) (goes_same (compares g) g' (sym (row guest g) ∙ leads)) (fields_put_cr _ g.locs (λ z lz uz. range z uz)))
       (λ guest host g g' regs flags choices given words leads.
       let e = goes_same (compares g) g' (sym (row guest g) ∙ leads) in

@@ -1,5 +1,5 @@
 -- Tiles of CR logic.
-use Rattle.std.proofs.Common.{◌≡◌, ◌≢◌, ℕ, ◌+◌, ◌-◌, ◌*◌, ◌/◌, ◌%◌, ◌^◌, ◌<◌, ◌≤◌, ◌⊎◌, inl, inr, Bool, true, false, not, ◌&&◌, ◌||◌, eqb, List, ◌++◌, bit_and, bit_or, bit_xor, refl, sym, ap, ◌∙◌, subst, arith, length}
+use Rattle.std.proofs.Common.{◌≡◌, ◌≢◌, ℕ, ◌+◌, ◌-◌, ◌*◌, ◌/◌, ◌%◌, ◌^◌, ◌<◌, ◌≤◌, ◌⊎◌, inl, inr, Bool, true, false, not, ◌&&◌, ◌||◌, eqb, List, ◌++◌, bit_and, bit_or, bit_xor, refl, sym, ap, ◌∙◌, subst, arith}
 use Rattle.std.proofs.Math.Nat.{div-le_self}
 use Rattle.word_kit.specs.Words.{one_if, same, complement}
 use Rattle.word_kit.specs.Bits.{bit_of, with_bit}
@@ -15,7 +15,7 @@ use Rattle.machines.specs.Memory.{update, Rights}
 use Rattle.machines.specs.Guest.{Guest, onward, put_cr, cr_word}
 use Rattle.machines.specs.Host.{Choice}
 use Rattle.machines.specs.Representation.{AreInRange}
-use Rattle.symbolic_tiles.specs.Tiles.{IsTileOf}
+use Rattle.symbolic_tiles.specs.Tiles.{IsTileOf, room_of}
 use Rattle.symbolic_tiles.specs.SymbolicOps.{IsTemporary, AreWellFormed}
 use Rattle.base_alu.specs.Conditions.{get_bit, cr_operation, set_bit, cr_ops}
 use Rattle.symbolic_tiles.proofs.Memory.{update_same, update_other}
@@ -118,14 +118,14 @@ operation_are Crorc = (tt, ((tt, tt), tt))
 set_are : (d : ℕ) → d < 32 → AreWellFormed (set_bit d)
 set_are d h = ((tt, omega arith), ((tt, omega arith), ((tt, (omega arith, omega arith)), ((tt, omega arith), ((tt, tt), (((omega arith, omega arith), tt), tt))))))
 
-few : (op : CrLogicOp) (d a b : ℕ) → length (cr_ops op d a b) ≤ 128
-few Crand d a b = omega arith
-few _ d a b = omega arith
+short : (op : CrLogicOp) (d a b : ℕ) → room_of (cr_ops op d a b) ≤ 631
+short Crand d a b = omega arith
+short _ d a b = omega arith
 
 pub cr_logic_does : (op : CrLogicOp) (d a b : ℕ) → IsLegal (CrLogic op d a b) → IsTileOf (CrLogic op d a b) (cr_ops op d a b)
 unfolding got
 cr_logic_does op d a b legal =
-    ops_are_tile i (cr_ops op d a b) legal (both_ops (get_bit 0 a ++ get_bit 1 b) (cr_operation op ++ set_bit d) (both_ops (get_bit 0 a) (get_bit 1 b) (get_are 0 a la tt) (get_are 1 b lb tt)) (both_ops (cr_operation op) (set_bit d) (operation_are op) (set_are d ld))) (few op d a b)
+    ops_are_tile i (cr_ops op d a b) legal (both_ops (get_bit 0 a ++ get_bit 1 b) (cr_operation op ++ set_bit d) (both_ops (get_bit 0 a) (get_bit 1 b) (get_are 0 a la tt) (get_are 1 b lb tt)) (both_ops (cr_operation op) (set_bit d) (operation_are op) (set_are d ld))) (short op d a b)
     (λ guest g g' range leads. subst (λ h. (z : ℕ) → 34 ≤ z → z < 46 → h.locs z < location_range z) (goes_same (after g) g' leads) (fields_put_cr _ g.locs (λ z lz uz. range z uz)))
     (λ guest host g g' regs flags choices given words leads.
     let e = goes_same (after g) g' leads in

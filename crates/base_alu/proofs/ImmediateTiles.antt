@@ -1,5 +1,5 @@
 -- Tiles of arithmetic and logic with an immediate.
-use Rattle.std.proofs.Common.{◌≡◌, ℕ, ◌*◌, ◌^◌, ◌<◌, Bool, true, false, eqb, [], ◌++◌, refl, sym, arith, ◌≤◌, length}
+use Rattle.std.proofs.Common.{◌≡◌, ℕ, ◌*◌, ◌^◌, ◌<◌, Bool, true, false, eqb, [], ◌++◌, refl, sym, arith, ◌≤◌}
 use Rattle.std.specs.Int.Bits.{and_lt}
 use Rattle.std.proofs.lemmas.Nat.{or_lt, xor_lt}
 use Rattle.word_kit.specs.Words.{complement, sign_extended}
@@ -13,7 +13,7 @@ use Rattle.ppc_isa.specs.Legal.{IsLegal}
 use Rattle.ppc_isa.specs.Locations.{immediate_records, logic_immediate_records}
 use Rattle.ppc_isa.specs.LogicRows.{logic_immediate}
 use Rattle.machines.specs.Guest.{logic_word}
-use Rattle.symbolic_tiles.specs.Tiles.{IsTileOf}
+use Rattle.symbolic_tiles.specs.Tiles.{IsTileOf, room_of}
 use Rattle.symbolic_tiles.specs.SymbolicOps.{AreWellFormed}
 use Rattle.symbolic_tiles.specs.Recording.{record_ops}
 use Rattle.base_alu.proofs.Families.{immediate_do, logic_immediate_do}
@@ -28,7 +28,7 @@ base_are : (z : Bool) (d a v : ℕ) → d < 32 → a < 32 → v < 2 ^ 32 → Are
 base_are true d a v ld la lv = ((tt, lv), ((word d ld, tt), tt))
 base_are false d a v ld la lv = ((tt, word a la), ((tt, lv), ((word d ld, tt), tt)))
 
-base_few : (z : Bool) (d a v : ℕ) → length (base_ops z d a v) ≤ 119
+base_few : (z : Bool) (d a v : ℕ) → room_of (base_ops z d a v) ≤ 570
 base_few true d a v = omega arith
 base_few false d a v = omega arith
 

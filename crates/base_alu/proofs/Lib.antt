@@ -11,3 +11,4 @@ pub mod Moves
 pub mod CrLogic
 pub mod Tiles
 pub mod FieldLoops
+pub mod Straight

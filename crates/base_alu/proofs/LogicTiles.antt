@@ -1,5 +1,5 @@
 -- Tiles of logic, of shifts of words, and of counts and extensions.
-use Rattle.std.proofs.Common.{◌≡◌, ℕ, zero, suc, ◌+◌, ◌-◌, ◌*◌, ◌/◌, ◌%◌, ◌^◌, ◌<◌, ◌≤◌, Bool, true, false, cond, not, eqb, leb, List, ◌++◌, bit_and, bit_or, bit_xor, refl, sym, ap, ◌∙◌, subst, mul_assoc, arith, length}
+use Rattle.std.proofs.Common.{◌≡◌, ℕ, zero, suc, ◌+◌, ◌-◌, ◌*◌, ◌/◌, ◌%◌, ◌^◌, ◌<◌, ◌≤◌, Bool, true, false, cond, not, eqb, leb, List, ◌++◌, bit_and, bit_or, bit_xor, refl, sym, ap, ◌∙◌, subst, mul_assoc, arith}
 use Rattle.std.specs.Int.Bits.{and_lt}
 use Rattle.std.proofs.Math.Nat.{mod-lt, div-eq_of_lt, div-le_self, mul-mod_left, pow-suc}
 use Rattle.std.proofs.Math.Pow.{pow_mono, pow_pos, split}
@@ -20,7 +20,7 @@ use Rattle.ppc_isa.specs.ShiftRows.{left_by, right_by, leading_zeros}
 use Rattle.ppc_isa.specs.Rows.{logic_unary_row}
 use Rattle.ia_codec.specs.Scan.{highest_one}
 use Rattle.machines.specs.Host.{choice_at}
-use Rattle.symbolic_tiles.specs.Tiles.{IsTileOf}
+use Rattle.symbolic_tiles.specs.Tiles.{IsTileOf, room_of}
 use Rattle.symbolic_tiles.specs.declared.symbolic_op.SymbolicOp.{SymbolicOp}
 use Rattle.symbolic_tiles.specs.SymbolicOps.{AreWellFormed}
 use Rattle.symbolic_tiles.specs.Recording.{record_ops}
@@ -124,7 +124,7 @@ no_bit (suc n) x h = by_bit (bit_of x n) refl (no_bit n x)
         small q u d s l = let z : q * u ≡ 0 * u = ap (λ k. k * u) d in omega arith
 
 module _ (op : LogicUnaryOp) (s a : ℕ) (records : Bool) (legal : IsLegal (LogicUnary op s a records)) where
-  logic_unary_do : (ops : List SymbolicOp) → AreWellFormed ops → length ops ≤ 119 → OpsGive (LogicUnary op s a records) a false records (λ g. (logic_unary_row op records (values_in (LogicUnary op s a records) g)).a) (λ g. false) (legal.fit.1.1.0) ops → IsTileOf (LogicUnary op s a records) (ops ++ record_ops records)
+  logic_unary_do : (ops : List SymbolicOp) → AreWellFormed ops → room_of ops ≤ 570 → OpsGive (LogicUnary op s a records) a false records (λ g. (logic_unary_row op records (values_in (LogicUnary op s a records) g)).a) (λ g. false) (legal.fit.1.1.0) ops → IsTileOf (LogicUnary op s a records) (ops ++ record_ops records)
   logic_unary_do ops are short run = results_do (LogicUnary op s a records) a false records _ _ (legal.fit.1.1.0) ops legal are short (λ guest g. refl) (λ g. logic_unary_gives op records (values_in (LogicUnary op s a records) g)) run
 
 zeros_small : (n x : ℕ) → leading_zeros n x ≤ 32

@@ -1,5 +1,5 @@
 -- The tile of mtcrf.
-use Rattle.std.proofs.Common.{◌≡◌, ◌≢◌, ℕ, zero, suc, ◌+◌, ◌-◌, ◌*◌, ◌/◌, ◌%◌, ◌^◌, ◌<◌, ◌≤◌, ◌⊎◌, inl, inr, Bool, true, false, cond, List, [], bit_and, refl, sym, ap, ◌∙◌, subst, arith, ◌++◌, length}
+use Rattle.std.proofs.Common.{◌≡◌, ◌≢◌, ℕ, zero, suc, ◌+◌, ◌-◌, ◌*◌, ◌/◌, ◌%◌, ◌^◌, ◌<◌, ◌≤◌, ◌⊎◌, inl, inr, Bool, true, false, cond, List, [], bit_and, refl, sym, ap, ◌∙◌, subst, arith, ◌++◌}
 use Rattle.std.proofs.lemmas.Nat.{and_mask}
 use Rattle.word_kit.specs.Bits.{bit_of}
 use Rattle.ppc_isa.specs.declared.instr.Instr.TheVariants.{MoveToCr}
@@ -9,7 +9,7 @@ use Rattle.machines.specs.Memory.{update, Rights}
 use Rattle.machines.specs.Guest.{Guest, onward, put_cr, cr_word}
 use Rattle.machines.specs.Host.{Choice}
 use Rattle.machines.specs.Representation.{AreInRange}
-use Rattle.symbolic_tiles.specs.Tiles.{IsTileOf}
+use Rattle.symbolic_tiles.specs.Tiles.{IsTileOf, room_of}
 use Rattle.symbolic_tiles.specs.SymbolicOps.{AreWellFormed}
 use Rattle.base_alu.specs.Conditions.{chosen_ops, mtcrf_below, mtcrf_ops}
 use Rattle.symbolic_tiles.proofs.Memory.{update_same, update_other}
@@ -77,18 +77,18 @@ module _ (s fxm : ℕ) (ls : s < 32) where
     all_fields guest host (suc n) h choices t d =
         ops_then guest host (IsDoneTo n) (IsDoneTo 0) (cond (bit_of fxm n) (chosen_ops s (7 - n)) []) (mtcrf_below n s fxm) choices t (one_field guest host n (omega arith) (bit_of fxm n) refl choices t d) (λ choices u d'. all_fields guest host n (omega arith) choices u d')
 
-below_few : (s fxm n : ℕ) → length (mtcrf_below n s fxm) ≤ 4 * n
+below_short : (s fxm n : ℕ) → room_of (mtcrf_below n s fxm) ≤ 24 * n
 unfolding mtcrf_below
-below_few s fxm zero = omega arith
-below_few s fxm (suc n) = by_bit (bit_of fxm n) (below_few s fxm n)
+below_short s fxm zero = omega arith
+below_short s fxm (suc n) = by_bit (bit_of fxm n) (below_short s fxm n)
   where
-    by_bit : (b : Bool) → length (mtcrf_below n s fxm) ≤ 4 * n → length (cond b (chosen_ops s (7 - n)) [] ++ mtcrf_below n s fxm) ≤ 4 * suc n
+    by_bit : (b : Bool) → room_of (mtcrf_below n s fxm) ≤ 24 * n → room_of (cond b (chosen_ops s (7 - n)) [] ++ mtcrf_below n s fxm) ≤ 24 * suc n
     by_bit true h = omega (arith, h)
     by_bit false h = omega (arith, h)
 
 pub mtcrf_does : (s fxm : ℕ) → IsLegal (MoveToCr s fxm) → IsTileOf (MoveToCr s fxm) (mtcrf_ops s fxm)
 mtcrf_does s fxm legal =
-    ops_are_tile (MoveToCr s fxm) (mtcrf_ops s fxm) legal (below_are s fxm ls 8 (omega arith)) (let f = below_few s fxm 8 in omega (arith, f))
+    ops_are_tile (MoveToCr s fxm) (mtcrf_ops s fxm) legal (below_are s fxm ls 8 (omega arith)) (let f = below_short s fxm 8 in omega (arith, f))
     (λ guest g g' range leads. subst (λ h. (z : ℕ) → 34 ≤ z → z < 46 → h.locs z < location_range z) (goes_same (after g) g' leads) (fields_put_cr (put_fields fxm (g.locs s) (cr_word g.locs)) g.locs (λ z lz uz. range z uz)))
     (λ guest host g g' regs flags choices given words leads.
     let e = goes_same (after g) g' leads in

@@ -1,14 +1,13 @@
 -- Each tile does its row.
-use Rattle.std.proofs.Common.{◌≤◌, subst, sym}
-use Rattle.std.proofs.lemmas.List.{length-map}
+use Rattle.std.proofs.Common.{arith}
 use Rattle.ppc_isa.specs.declared.instr.Instr.TheVariants as instr
 use Rattle.ppc_isa.specs.declared.instr.RotateOp.TheVariants.{Rlwinm, Rlwnm, Rlwimi}
 use Rattle.ppc_isa.specs.declared.instr.CompareImmediateOp.TheVariants.{Cmpi, Cmpli}
 use Rattle.ppc_isa.specs.declared.instr.CompareOp.TheVariants.{Cmp, Cmpl}
-use Rattle.symbolic_tiles.specs.SymbolicOps.{op_of}
 use Rattle.symbolic_tiles.proofs.Placeable.{ops_placeable}
+use Rattle.symbolic_tiles.proofs.Lengths.{ops_short, few_ops}
 use Rattle.base_alu.specs.Tile.{symbolic_tile}
-use Rattle.base_alu.specs.Laws.{TilesAreTiles, TilesDoRows, TilesArePlaceable}
+use Rattle.base_alu.specs.Laws.{TilesAreTiles, TilesDoRows, TilesArePlaceable, TilesAreShort}
 use Rattle.base_alu.proofs.ImmediateTiles.{immediate_does, logic_immediate_does}
 use Rattle.base_alu.proofs.ArithmeticTiles.{arithmetic_does, unary_does}
 use Rattle.base_alu.proofs.LogicTiles.{logic_does, logic_unary_does}
@@ -48,4 +47,11 @@ pub tiles_do_rows : TilesDoRows
 tiles_do_rows i legal built = (tiles_are_tiles i legal built).does
 
 pub tiles_are_placeable : TilesArePlaceable
-tiles_are_placeable i m legal built is_map = let t = tiles_are_tiles i legal built in (subst (λ n. n ≤ 128) (sym (length-map (symbolic_tile i) (op_of m))) t.few, ops_placeable m is_map (symbolic_tile i) t.well_formed)
+tiles_are_placeable i m legal built is_map = ops_placeable m is_map (symbolic_tile i) (tiles_are_tiles i legal built).well_formed
+
+pub tiles_are_short : TilesAreShort
+tiles_are_short i m legal built =
+    let room = (tiles_are_tiles i legal built).short in
+    let few = few_ops m (symbolic_tile i) in
+    let bytes = ops_short m (symbolic_tile i) in
+    (omega (arith, room, few), omega (arith, room, bytes))

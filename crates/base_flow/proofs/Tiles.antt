@@ -20,7 +20,7 @@ use Rattle.base_flow.specs.Traps.{when_jump, trap_tests, trap_items, tw_ops, twi
 use Rattle.base_flow.specs.Branches.{link_ops, count_ops, count_fails, bit_ops, bit_fails, unless, otherwise, branch_items}
 use Rattle.base_flow.specs.SystemCall.{done_items, error_items, failure_items, success_items, answer_items, request_items, selection_items}
 use Rattle.base_flow.specs.Tile.{items_of, HasTile}
-use Rattle.base_flow.specs.Laws.{FlowTilesAreLaid, FlowTilesDoRows, IllegalTileDoesWord, FlowTilesAreMarked}
+use Rattle.base_flow.specs.Laws.{BuiltHaveTiles, FlowTilesAreLaid, FlowTilesDoRows, IllegalTileDoesWord, FlowTilesAreMarked}
 use Rattle.symbolic_tiles.specs.Marks.{AreMarked, has_mark}
 use Rattle.symbolic_tiles.proofs.Places.{slot_content}
 use Rattle.symbolic_tiles.proofs.FlowDone.{items_done}
@@ -155,3 +155,8 @@ flow_tiles_are_laid (instr.Trap to a b) m at legal is flow = items_laid m is (it
 flow_tiles_are_laid (instr.TrapImmediate to a imm) m at legal is flow = items_laid m is (items_of (instr.TrapImmediate to a imm) at) (twi_are m to a imm at legal.fit.1.1.0 legal.fit.1.1.1.0)
 flow_tiles_are_laid instr.SystemCall m at legal is flow = items_laid m is (items_of instr.SystemCall at) (sc_are m at (ebx_free m flow.1))
 flow_tiles_are_laid _ m at legal is flow = absurd (false≢true flow.0)
+
+pub built_have_tiles : BuiltHaveTiles
+built_have_tiles (instr.Branch target absolute false) m built free = (refl, tt)
+built_have_tiles instr.SystemCall m built free = (refl, free)
+built_have_tiles _ m built free = absurd built

@@ -1,13 +1,13 @@
 -- What holds of the tiles, for the layers above that reason on bytes.
-use Rattle.std.specs.Prelude.{ℕ, ◌≤◌, length, Some, None}
+use Rattle.std.specs.Prelude.{◌≡◌, ℕ, ◌≤◌, length, Some, None}
 use Rattle.ppc_isa.specs.declared.map.Map.{Map}
 use Rattle.ppc_isa.specs.Map.{IsMap}
 use Rattle.ppc_isa.specs.declared.instr.Instr.{Instr}
 use Rattle.ppc_isa.specs.Legal.{IsLegal}
 use Rattle.symbolic_tiles.specs.TileItems.{flows_of}
 use Rattle.symbolic_tiles.specs.Flow.{FlowDoesWord}
-use Rattle.symbolic_tiles.specs.Marks.{AreMarked, AreLaid}
-use Rattle.base_flow.specs.Tile.{HasTile, illegal_items, tile}
+use Rattle.symbolic_tiles.specs.Marks.{AreMarked, AreLaid, flows_room}
+use Rattle.base_flow.specs.Tile.{IsBuilt, HasTile, illegal_items, tile}
 
 -- each tile of a flow word does what its row does
 abbrev pub FlowTilesDoRows : Type 0
@@ -24,3 +24,11 @@ FlowTilesAreMarked = (i : Instr) (m : Map) (at : ℕ) → AreMarked (tile i at m
 -- each op of a tile can be spelled over every home page
 abbrev pub FlowTilesAreLaid : Type 0
 FlowTilesAreLaid = (i : Instr) (m : Map) (at : ℕ) → IsLegal i → IsMap m → HasTile i m → AreLaid (tile i at m)
+
+-- and a tile's bytes have room
+abbrev pub FlowTilesAreShort : Type 0
+FlowTilesAreShort = (i : Instr) (m : Map) (at : ℕ) → flows_room (tile i at m) ≤ 631
+
+-- a built instruction is a flow word that has a tile where no GPR is in ebx
+abbrev pub BuiltHaveTiles : Type 0
+BuiltHaveTiles = (i : Instr) (m : Map) → IsBuilt i → m.ebx ≡ None → HasTile i m

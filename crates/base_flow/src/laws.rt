@@ -1,6 +1,6 @@
 //! What holds of the tiles. Each law is the contract of a function that does nothing.
 
-ghost use Rattle.base_flow.specs.Laws.{FlowTilesDoRows, IllegalTileDoesWord, FlowTilesAreMarked, FlowTilesAreLaid};
+ghost use Rattle.base_flow.specs.Laws.{FlowTilesDoRows, IllegalTileDoesWord, FlowTilesAreMarked, FlowTilesAreLaid, FlowTilesAreShort, BuiltHaveTiles};
 
 /// Each tile of a flow word does what the word's row does, under every map under which it has one.
 pub fn flow_tiles_do_rows()
@@ -20,4 +20,14 @@ pub fn flow_tiles_are_marked()
 /// Each op of a tile can be spelled over every home page.
 pub fn flow_tiles_are_laid()
     ensures { FlowTilesAreLaid }
+{}
+
+/// No tile has more than 631 bytes, its edges' moves included.
+pub fn flow_tiles_are_short()
+    ensures { FlowTilesAreShort }
+{}
+
+/// A built instruction is a flow word that has a tile where no GPR is in ebx.
+pub fn built_have_tiles()
+    ensures { BuiltHaveTiles }
 {}

@@ -21,7 +21,8 @@ ghost use Rattle.base_flow.specs.Tile.{HasTile, tile};
 use crate::table::items;
 pub use branching::{next_address, short_target, target};
 pub use laws::{
-    flow_tiles_are_laid, flow_tiles_are_marked, flow_tiles_do_rows, illegal_tile_does_word,
+    built_have_tiles, flow_tiles_are_laid, flow_tiles_are_marked, flow_tiles_are_short,
+    flow_tiles_do_rows, illegal_tile_does_word,
 };
 use ppc_isa::{Instr, Map};
 use std::alloc::Global;

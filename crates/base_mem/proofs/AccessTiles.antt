@@ -1,5 +1,5 @@
 -- Tiles of all loads and stores of one number.
-use Rattle.std.proofs.Common.{◌≡◌, ℕ, ◌+◌, ◌/◌, ◌%◌, ◌^◌, ◌<◌, Bool, true, false, cond, eqb, List, ◌++◌, refl, ap, ◌∙◌, arith, length, ◌≤◌}
+use Rattle.std.proofs.Common.{◌≡◌, ℕ, ◌+◌, ◌/◌, ◌%◌, ◌^◌, ◌<◌, Bool, true, false, cond, eqb, List, ◌++◌, refl, ap, ◌∙◌, arith, ◌≤◌}
 use Rattle.std.proofs.lemmas.Bool.Decides.{nat_tests}
 use Rattle.word_kit.specs.Words.{sign_extended}
 use Rattle.word_kit.specs.Bits.{shifted_arith}
@@ -32,11 +32,11 @@ use Rattle.base_mem.specs.Addresses.{immediate_address, indexed_address}
 use Rattle.base_mem.specs.Loads.{lwz_ops, lbz_ops, lhz_ops, lha_ops, lwbrx_ops, lhbrx_ops, put_ops, load_ops, load_update_ops, load_indexed_ops, load_indexed_update_ops}
 use Rattle.base_mem.specs.Stores.{stw_ops, stb_ops, sth_ops, stwbrx_ops, sthbrx_ops, update_ops, store_ops, store_update_ops, store_indexed_ops, store_indexed_update_ops}
 use Rattle.symbolic_tiles.specs.SymbolicState.{SymbolicState, execute_ops, can_load, can_store}
-use Rattle.symbolic_tiles.specs.Tiles.{IsTileOf}
+use Rattle.symbolic_tiles.specs.Tiles.{IsTileOf, room_of}
 use Rattle.symbolic_tiles.proofs.Done.{state_of}
 use Rattle.symbolic_tiles.proofs.Results.{Then}
 use Rattle.symbolic_tiles.proofs.Registers.{word, gpr, extended_word}
-use Rattle.base_mem.proofs.Accesses.{inside_then, Bytes, byte_at, HasAddress, HasNumber, HasStored, Inside, Loads, Stores, at_zero, immediate_addressed, immediate_are, immediate_few, lwz_loads, lhz_loads, stw_stores, load_does, store_does}
+use Rattle.base_mem.proofs.Accesses.{inside_then, Bytes, byte_at, HasAddress, HasNumber, HasStored, Inside, Loads, Stores, at_zero, immediate_addressed, immediate_are, immediate_short, lwz_loads, lhz_loads, stw_stores, load_does, store_does}
 
 -- the values of the other loads
 module _ (f : ℕ → ℕ) (a : ℕ) where
@@ -101,9 +101,9 @@ module _ (guest host : Rights) where
   indexed_addressed true a b g regs flags choices lb = (omega (arith, lb), refl, refl)
   indexed_addressed false a b g regs flags choices lb = (omega arith, refl, refl)
 
-indexed_few : (z : Bool) (a b : ℕ) → length (indexed_address z a b) ≤ 2
-indexed_few true a b = omega arith
-indexed_few false a b = omega arith
+indexed_short : (z : Bool) (a b : ℕ) → room_of (indexed_address z a b) ≤ 12
+indexed_short true a b = omega arith
+indexed_short false a b = omega arith
 
 indexed_are : (z : Bool) (a b : ℕ) → a < 32 → b < 32 → AreWellFormed (indexed_address z a b)
 indexed_are true a b la lb = ((tt, word b lb), tt)
@@ -125,81 +125,81 @@ lha_are = ((tt, tt, omega arith), (tt, ((tt, omega arith), tt)))
 pub load_tile_does : (op : LoadOp) (d a imm : ℕ) → IsLegal (instr.Load op d a imm) → IsTileOf (instr.Load op d a imm) (immediate_address (eqb a 0) a imm ++ (load_ops op ++ put_ops false d a))
 load_tile_does Lwz d a imm legal =
     load_does (instr.Load Lwz d a imm) false d a 4 (λ g. (cond (eqb a 0) 0 (g.locs a) + sign_extended 16 imm) % 2 ^ 32) (λ A bytes. load_big 4 A bytes) (legal.fit.1.0) (legal.fit.1.1.0) (immediate_address (eqb a 0) a imm) lwz_ops legal
-    (immediate_are (eqb a 0) a imm (legal.fit.1.1.0) (extended_word imm (legal.fit.1.1.1.0))) lwz_are (immediate_few (eqb a 0) a imm) (omega arith) (λ guest g. refl) (λ guest host g given. given.loads)
+    (immediate_are (eqb a 0) a imm (legal.fit.1.1.0) (extended_word imm (legal.fit.1.1.1.0))) lwz_are (immediate_short (eqb a 0) a imm) (omega arith) (λ guest g. refl) (λ guest host g given. given.loads)
     (λ guest host g range regs flags choices. (omega arith, immediate_addressed guest host (eqb a 0) a imm g regs flags choices (extended_word imm (legal.fit.1.1.1.0)))) (λ guest host. lwz_loads guest host)
 load_tile_does Lbz d a imm legal =
     load_does (instr.Load Lbz d a imm) false d a 1 (λ g. (cond (eqb a 0) 0 (g.locs a) + sign_extended 16 imm) % 2 ^ 32) (λ A bytes. load_big 1 A bytes) (legal.fit.1.0) (legal.fit.1.1.0) (immediate_address (eqb a 0) a imm) lbz_ops legal
-    (immediate_are (eqb a 0) a imm (legal.fit.1.1.0) (extended_word imm (legal.fit.1.1.1.0))) lbz_are (immediate_few (eqb a 0) a imm) (omega arith) (λ guest g. refl) (λ guest host g given. given.loads)
+    (immediate_are (eqb a 0) a imm (legal.fit.1.1.0) (extended_word imm (legal.fit.1.1.1.0))) lbz_are (immediate_short (eqb a 0) a imm) (omega arith) (λ guest g. refl) (λ guest host g given. given.loads)
     (λ guest host g range regs flags choices. (omega arith, immediate_addressed guest host (eqb a 0) a imm g regs flags choices (extended_word imm (legal.fit.1.1.1.0)))) (λ guest host. lbz_loads guest host)
 load_tile_does Lhz d a imm legal =
     load_does (instr.Load Lhz d a imm) false d a 2 (λ g. (cond (eqb a 0) 0 (g.locs a) + sign_extended 16 imm) % 2 ^ 32) (λ A bytes. load_big 2 A bytes) (legal.fit.1.0) (legal.fit.1.1.0) (immediate_address (eqb a 0) a imm) lhz_ops legal
-    (immediate_are (eqb a 0) a imm (legal.fit.1.1.0) (extended_word imm (legal.fit.1.1.1.0))) lhz_are (immediate_few (eqb a 0) a imm) (omega arith) (λ guest g. refl) (λ guest host g given. given.loads)
+    (immediate_are (eqb a 0) a imm (legal.fit.1.1.0) (extended_word imm (legal.fit.1.1.1.0))) lhz_are (immediate_short (eqb a 0) a imm) (omega arith) (λ guest g. refl) (λ guest host g given. given.loads)
     (λ guest host g range regs flags choices. (omega arith, immediate_addressed guest host (eqb a 0) a imm g regs flags choices (extended_word imm (legal.fit.1.1.1.0)))) (λ guest host. lhz_loads guest host)
 load_tile_does Lha d a imm legal =
     load_does (instr.Load Lha d a imm) false d a 2 (λ g. (cond (eqb a 0) 0 (g.locs a) + sign_extended 16 imm) % 2 ^ 32) (λ A bytes. half_extended (load_big 2 A bytes)) (legal.fit.1.0) (legal.fit.1.1.0) (immediate_address (eqb a 0) a imm) lha_ops legal
-    (immediate_are (eqb a 0) a imm (legal.fit.1.1.0) (extended_word imm (legal.fit.1.1.1.0))) lha_are (immediate_few (eqb a 0) a imm) (omega arith) (λ guest g. refl) (λ guest host g given. given.loads)
+    (immediate_are (eqb a 0) a imm (legal.fit.1.1.0) (extended_word imm (legal.fit.1.1.1.0))) lha_are (immediate_short (eqb a 0) a imm) (omega arith) (λ guest g. refl) (λ guest host g given. given.loads)
     (λ guest host g range regs flags choices. (omega arith, immediate_addressed guest host (eqb a 0) a imm g regs flags choices (extended_word imm (legal.fit.1.1.1.0)))) (λ guest host. lha_loads guest host)
 
 pub load_update_tile_does : (op : LoadUpdateOp) (d a imm : ℕ) → IsLegal (instr.LoadUpdate op d a imm) → IsTileOf (instr.LoadUpdate op d a imm) (immediate_address false a imm ++ (load_update_ops op ++ put_ops true d a))
 load_update_tile_does Lwzu d a imm legal =
     load_does (instr.LoadUpdate Lwzu d a imm) true d a 4 (λ g. (g.locs a + sign_extended 16 imm) % 2 ^ 32) (λ A bytes. load_big 4 A bytes) (legal.fit.1.0) (legal.fit.1.1.0) (immediate_address false a imm) lwz_ops legal
-    (immediate_are false a imm (legal.fit.1.1.0) (extended_word imm (legal.fit.1.1.1.0))) lwz_are (immediate_few false a imm) (omega arith) (λ guest g. refl) (λ guest host g given. given.loads)
+    (immediate_are false a imm (legal.fit.1.1.0) (extended_word imm (legal.fit.1.1.1.0))) lwz_are (immediate_short false a imm) (omega arith) (λ guest g. refl) (λ guest host g given. given.loads)
     (λ guest host g range regs flags choices. (omega arith, immediate_addressed guest host false a imm g regs flags choices (extended_word imm (legal.fit.1.1.1.0)))) (λ guest host. lwz_loads guest host)
 load_update_tile_does Lbzu d a imm legal =
     load_does (instr.LoadUpdate Lbzu d a imm) true d a 1 (λ g. (g.locs a + sign_extended 16 imm) % 2 ^ 32) (λ A bytes. load_big 1 A bytes) (legal.fit.1.0) (legal.fit.1.1.0) (immediate_address false a imm) lbz_ops legal
-    (immediate_are false a imm (legal.fit.1.1.0) (extended_word imm (legal.fit.1.1.1.0))) lbz_are (immediate_few false a imm) (omega arith) (λ guest g. refl) (λ guest host g given. given.loads)
+    (immediate_are false a imm (legal.fit.1.1.0) (extended_word imm (legal.fit.1.1.1.0))) lbz_are (immediate_short false a imm) (omega arith) (λ guest g. refl) (λ guest host g given. given.loads)
     (λ guest host g range regs flags choices. (omega arith, immediate_addressed guest host false a imm g regs flags choices (extended_word imm (legal.fit.1.1.1.0)))) (λ guest host. lbz_loads guest host)
 load_update_tile_does Lhzu d a imm legal =
     load_does (instr.LoadUpdate Lhzu d a imm) true d a 2 (λ g. (g.locs a + sign_extended 16 imm) % 2 ^ 32) (λ A bytes. load_big 2 A bytes) (legal.fit.1.0) (legal.fit.1.1.0) (immediate_address false a imm) lhz_ops legal
-    (immediate_are false a imm (legal.fit.1.1.0) (extended_word imm (legal.fit.1.1.1.0))) lhz_are (immediate_few false a imm) (omega arith) (λ guest g. refl) (λ guest host g given. given.loads)
+    (immediate_are false a imm (legal.fit.1.1.0) (extended_word imm (legal.fit.1.1.1.0))) lhz_are (immediate_short false a imm) (omega arith) (λ guest g. refl) (λ guest host g given. given.loads)
     (λ guest host g range regs flags choices. (omega arith, immediate_addressed guest host false a imm g regs flags choices (extended_word imm (legal.fit.1.1.1.0)))) (λ guest host. lhz_loads guest host)
 load_update_tile_does Lhau d a imm legal =
     load_does (instr.LoadUpdate Lhau d a imm) true d a 2 (λ g. (g.locs a + sign_extended 16 imm) % 2 ^ 32) (λ A bytes. half_extended (load_big 2 A bytes)) (legal.fit.1.0) (legal.fit.1.1.0) (immediate_address false a imm) lha_ops legal
-    (immediate_are false a imm (legal.fit.1.1.0) (extended_word imm (legal.fit.1.1.1.0))) lha_are (immediate_few false a imm) (omega arith) (λ guest g. refl) (λ guest host g given. given.loads)
+    (immediate_are false a imm (legal.fit.1.1.0) (extended_word imm (legal.fit.1.1.1.0))) lha_are (immediate_short false a imm) (omega arith) (λ guest g. refl) (λ guest host g given. given.loads)
     (λ guest host g range regs flags choices. (omega arith, immediate_addressed guest host false a imm g regs flags choices (extended_word imm (legal.fit.1.1.1.0)))) (λ guest host. lha_loads guest host)
 
 pub load_indexed_tile_does : (op : LoadIndexedOp) (d a b : ℕ) → IsLegal (instr.LoadIndexed op d a b) → IsTileOf (instr.LoadIndexed op d a b) (indexed_address (eqb a 0) a b ++ (load_indexed_ops op ++ put_ops false d a))
 load_indexed_tile_does Lwzx d a b legal =
     load_does (instr.LoadIndexed Lwzx d a b) false d a 4 (λ g. (cond (eqb a 0) 0 (g.locs a) + g.locs b) % 2 ^ 32) (λ A bytes. load_big 4 A bytes) (legal.fit.1.0) (legal.fit.1.1.0) (indexed_address (eqb a 0) a b) lwz_ops legal
-    (indexed_are (eqb a 0) a b (legal.fit.1.1.0) (legal.fit.1.1.1.0)) lwz_are (indexed_few (eqb a 0) a b) (omega arith) (λ guest g. refl) (λ guest host g given. given.loads)
+    (indexed_are (eqb a 0) a b (legal.fit.1.1.0) (legal.fit.1.1.1.0)) lwz_are (indexed_short (eqb a 0) a b) (omega arith) (λ guest g. refl) (λ guest host g given. given.loads)
     (λ guest host g range regs flags choices. (omega arith, indexed_addressed guest host (eqb a 0) a b g regs flags choices (gpr g b range (legal.fit.1.1.1.0)))) (λ guest host. lwz_loads guest host)
 load_indexed_tile_does Lbzx d a b legal =
     load_does (instr.LoadIndexed Lbzx d a b) false d a 1 (λ g. (cond (eqb a 0) 0 (g.locs a) + g.locs b) % 2 ^ 32) (λ A bytes. load_big 1 A bytes) (legal.fit.1.0) (legal.fit.1.1.0) (indexed_address (eqb a 0) a b) lbz_ops legal
-    (indexed_are (eqb a 0) a b (legal.fit.1.1.0) (legal.fit.1.1.1.0)) lbz_are (indexed_few (eqb a 0) a b) (omega arith) (λ guest g. refl) (λ guest host g given. given.loads)
+    (indexed_are (eqb a 0) a b (legal.fit.1.1.0) (legal.fit.1.1.1.0)) lbz_are (indexed_short (eqb a 0) a b) (omega arith) (λ guest g. refl) (λ guest host g given. given.loads)
     (λ guest host g range regs flags choices. (omega arith, indexed_addressed guest host (eqb a 0) a b g regs flags choices (gpr g b range (legal.fit.1.1.1.0)))) (λ guest host. lbz_loads guest host)
 load_indexed_tile_does Lhzx d a b legal =
     load_does (instr.LoadIndexed Lhzx d a b) false d a 2 (λ g. (cond (eqb a 0) 0 (g.locs a) + g.locs b) % 2 ^ 32) (λ A bytes. load_big 2 A bytes) (legal.fit.1.0) (legal.fit.1.1.0) (indexed_address (eqb a 0) a b) lhz_ops legal
-    (indexed_are (eqb a 0) a b (legal.fit.1.1.0) (legal.fit.1.1.1.0)) lhz_are (indexed_few (eqb a 0) a b) (omega arith) (λ guest g. refl) (λ guest host g given. given.loads)
+    (indexed_are (eqb a 0) a b (legal.fit.1.1.0) (legal.fit.1.1.1.0)) lhz_are (indexed_short (eqb a 0) a b) (omega arith) (λ guest g. refl) (λ guest host g given. given.loads)
     (λ guest host g range regs flags choices. (omega arith, indexed_addressed guest host (eqb a 0) a b g regs flags choices (gpr g b range (legal.fit.1.1.1.0)))) (λ guest host. lhz_loads guest host)
 load_indexed_tile_does Lhax d a b legal =
     load_does (instr.LoadIndexed Lhax d a b) false d a 2 (λ g. (cond (eqb a 0) 0 (g.locs a) + g.locs b) % 2 ^ 32) (λ A bytes. half_extended (load_big 2 A bytes)) (legal.fit.1.0) (legal.fit.1.1.0) (indexed_address (eqb a 0) a b) lha_ops legal
-    (indexed_are (eqb a 0) a b (legal.fit.1.1.0) (legal.fit.1.1.1.0)) lha_are (indexed_few (eqb a 0) a b) (omega arith) (λ guest g. refl) (λ guest host g given. given.loads)
+    (indexed_are (eqb a 0) a b (legal.fit.1.1.0) (legal.fit.1.1.1.0)) lha_are (indexed_short (eqb a 0) a b) (omega arith) (λ guest g. refl) (λ guest host g given. given.loads)
     (λ guest host g range regs flags choices. (omega arith, indexed_addressed guest host (eqb a 0) a b g regs flags choices (gpr g b range (legal.fit.1.1.1.0)))) (λ guest host. lha_loads guest host)
 load_indexed_tile_does Lwbrx d a b legal =
     load_does (instr.LoadIndexed Lwbrx d a b) false d a 4 (λ g. (cond (eqb a 0) 0 (g.locs a) + g.locs b) % 2 ^ 32) (λ A bytes. word_reversed (load_big 4 A bytes)) (legal.fit.1.0) (legal.fit.1.1.0) (indexed_address (eqb a 0) a b) lwbrx_ops legal
-    (indexed_are (eqb a 0) a b (legal.fit.1.1.0) (legal.fit.1.1.1.0)) ((tt, tt, omega arith), tt) (indexed_few (eqb a 0) a b) (omega arith) (λ guest g. refl) (λ guest host g given. given.loads)
+    (indexed_are (eqb a 0) a b (legal.fit.1.1.0) (legal.fit.1.1.1.0)) ((tt, tt, omega arith), tt) (indexed_short (eqb a 0) a b) (omega arith) (λ guest g. refl) (λ guest host g given. given.loads)
     (λ guest host g range regs flags choices. (omega arith, indexed_addressed guest host (eqb a 0) a b g regs flags choices (gpr g b range (legal.fit.1.1.1.0)))) (λ guest host. lwbrx_loads guest host)
 load_indexed_tile_does Lhbrx d a b legal =
     load_does (instr.LoadIndexed Lhbrx d a b) false d a 2 (λ g. (cond (eqb a 0) 0 (g.locs a) + g.locs b) % 2 ^ 32) (λ A bytes. half_reversed (load_big 2 A bytes)) (legal.fit.1.0) (legal.fit.1.1.0) (indexed_address (eqb a 0) a b) lhbrx_ops legal
-    (indexed_are (eqb a 0) a b (legal.fit.1.1.0) (legal.fit.1.1.1.0)) ((tt, tt, omega arith), tt) (indexed_few (eqb a 0) a b) (omega arith) (λ guest g. refl) (λ guest host g given. given.loads)
+    (indexed_are (eqb a 0) a b (legal.fit.1.1.0) (legal.fit.1.1.1.0)) ((tt, tt, omega arith), tt) (indexed_short (eqb a 0) a b) (omega arith) (λ guest g. refl) (λ guest host g given. given.loads)
     (λ guest host g range regs flags choices. (omega arith, indexed_addressed guest host (eqb a 0) a b g regs flags choices (gpr g b range (legal.fit.1.1.1.0)))) (λ guest host. lhbrx_loads guest host)
 
 pub load_indexed_update_tile_does : (op : LoadIndexedUpdateOp) (d a b : ℕ) → IsLegal (instr.LoadIndexedUpdate op d a b) → IsTileOf (instr.LoadIndexedUpdate op d a b) (indexed_address false a b ++ (load_indexed_update_ops op ++ put_ops true d a))
 load_indexed_update_tile_does Lwzux d a b legal =
     load_does (instr.LoadIndexedUpdate Lwzux d a b) true d a 4 (λ g. (g.locs a + g.locs b) % 2 ^ 32) (λ A bytes. load_big 4 A bytes) (legal.fit.1.0) (legal.fit.1.1.0) (indexed_address false a b) lwz_ops legal
-    (indexed_are false a b (legal.fit.1.1.0) (legal.fit.1.1.1.0)) lwz_are (indexed_few false a b) (omega arith) (λ guest g. refl) (λ guest host g given. given.loads)
+    (indexed_are false a b (legal.fit.1.1.0) (legal.fit.1.1.1.0)) lwz_are (indexed_short false a b) (omega arith) (λ guest g. refl) (λ guest host g given. given.loads)
     (λ guest host g range regs flags choices. (omega arith, indexed_addressed guest host false a b g regs flags choices (gpr g b range (legal.fit.1.1.1.0)))) (λ guest host. lwz_loads guest host)
 load_indexed_update_tile_does Lbzux d a b legal =
     load_does (instr.LoadIndexedUpdate Lbzux d a b) true d a 1 (λ g. (g.locs a + g.locs b) % 2 ^ 32) (λ A bytes. load_big 1 A bytes) (legal.fit.1.0) (legal.fit.1.1.0) (indexed_address false a b) lbz_ops legal
-    (indexed_are false a b (legal.fit.1.1.0) (legal.fit.1.1.1.0)) lbz_are (indexed_few false a b) (omega arith) (λ guest g. refl) (λ guest host g given. given.loads)
+    (indexed_are false a b (legal.fit.1.1.0) (legal.fit.1.1.1.0)) lbz_are (indexed_short false a b) (omega arith) (λ guest g. refl) (λ guest host g given. given.loads)
     (λ guest host g range regs flags choices. (omega arith, indexed_addressed guest host false a b g regs flags choices (gpr g b range (legal.fit.1.1.1.0)))) (λ guest host. lbz_loads guest host)
 load_indexed_update_tile_does Lhzux d a b legal =
     load_does (instr.LoadIndexedUpdate Lhzux d a b) true d a 2 (λ g. (g.locs a + g.locs b) % 2 ^ 32) (λ A bytes. load_big 2 A bytes) (legal.fit.1.0) (legal.fit.1.1.0) (indexed_address false a b) lhz_ops legal
-    (indexed_are false a b (legal.fit.1.1.0) (legal.fit.1.1.1.0)) lhz_are (indexed_few false a b) (omega arith) (λ guest g. refl) (λ guest host g given. given.loads)
+    (indexed_are false a b (legal.fit.1.1.0) (legal.fit.1.1.1.0)) lhz_are (indexed_short false a b) (omega arith) (λ guest g. refl) (λ guest host g given. given.loads)
     (λ guest host g range regs flags choices. (omega arith, indexed_addressed guest host false a b g regs flags choices (gpr g b range (legal.fit.1.1.1.0)))) (λ guest host. lhz_loads guest host)
 load_indexed_update_tile_does Lhaux d a b legal =
     load_does (instr.LoadIndexedUpdate Lhaux d a b) true d a 2 (λ g. (g.locs a + g.locs b) % 2 ^ 32) (λ A bytes. half_extended (load_big 2 A bytes)) (legal.fit.1.0) (legal.fit.1.1.0) (indexed_address false a b) lha_ops legal
-    (indexed_are false a b (legal.fit.1.1.0) (legal.fit.1.1.1.0)) lha_are (indexed_few false a b) (omega arith) (λ guest g. refl) (λ guest host g given. given.loads)
+    (indexed_are false a b (legal.fit.1.1.0) (legal.fit.1.1.1.0)) lha_are (indexed_short false a b) (omega arith) (λ guest g. refl) (λ guest host g given. given.loads)
     (λ guest host g range regs flags choices. (omega arith, indexed_addressed guest host false a b g regs flags choices (gpr g b range (legal.fit.1.1.1.0)))) (λ guest host. lha_loads guest host)
 
 -- the bytes that the other stores leave
@@ -259,63 +259,63 @@ module _ (guest host : Rights) (k : ℕ) (lk : k < 32) where
 pub store_tile_does : (op : StoreOp) (s a imm : ℕ) → IsLegal (instr.Store op s a imm) → IsTileOf (instr.Store op s a imm) (immediate_address (eqb a 0) a imm ++ (store_ops op s ++ update_ops false a))
 store_tile_does Stw s a imm legal =
     store_does (instr.Store Stw s a imm) false a 4 (λ g. (cond (eqb a 0) 0 (g.locs a) + sign_extended 16 imm) % 2 ^ 32) (λ A g. store_big 4 A (g.locs s) g.bytes) (legal.fit.1.1.0) (immediate_address (eqb a 0) a imm) (stw_ops s) legal
-    (immediate_are (eqb a 0) a imm (legal.fit.1.1.0) (extended_word imm (legal.fit.1.1.1.0))) ((tt, word s (legal.fit.1.0)), (tt, ((tt, tt, omega arith), tt))) (immediate_few (eqb a 0) a imm) (omega arith) (λ guest g. refl) (λ guest host g given. given.stores)
+    (immediate_are (eqb a 0) a imm (legal.fit.1.1.0) (extended_word imm (legal.fit.1.1.1.0))) ((tt, word s (legal.fit.1.0)), (tt, ((tt, tt, omega arith), tt))) (immediate_short (eqb a 0) a imm) (omega arith) (λ guest g. refl) (λ guest host g given. given.stores)
     (λ guest host g range regs flags choices. (omega arith, immediate_addressed guest host (eqb a 0) a imm g regs flags choices (extended_word imm (legal.fit.1.1.1.0)))) (λ guest host. stw_stores guest host s (legal.fit.1.0))
 store_tile_does Stb s a imm legal =
     store_does (instr.Store Stb s a imm) false a 1 (λ g. (cond (eqb a 0) 0 (g.locs a) + sign_extended 16 imm) % 2 ^ 32) (λ A g. store_big 1 A (g.locs s % 2 ^ 8) g.bytes) (legal.fit.1.1.0) (immediate_address (eqb a 0) a imm) (stb_ops s) legal
-    (immediate_are (eqb a 0) a imm (legal.fit.1.1.0) (extended_word imm (legal.fit.1.1.1.0))) ((tt, word s (legal.fit.1.0)), ((tt, tt, omega arith), tt)) (immediate_few (eqb a 0) a imm) (omega arith) (λ guest g. refl) (λ guest host g given. given.stores)
+    (immediate_are (eqb a 0) a imm (legal.fit.1.1.0) (extended_word imm (legal.fit.1.1.1.0))) ((tt, word s (legal.fit.1.0)), ((tt, tt, omega arith), tt)) (immediate_short (eqb a 0) a imm) (omega arith) (λ guest g. refl) (λ guest host g given. given.stores)
     (λ guest host g range regs flags choices. (omega arith, immediate_addressed guest host (eqb a 0) a imm g regs flags choices (extended_word imm (legal.fit.1.1.1.0)))) (λ guest host. stb_stores guest host s (legal.fit.1.0))
 store_tile_does Sth s a imm legal =
     store_does (instr.Store Sth s a imm) false a 2 (λ g. (cond (eqb a 0) 0 (g.locs a) + sign_extended 16 imm) % 2 ^ 32) (λ A g. store_big 2 A (g.locs s % 2 ^ 16) g.bytes) (legal.fit.1.1.0) (immediate_address (eqb a 0) a imm) (sth_ops s) legal
-    (immediate_are (eqb a 0) a imm (legal.fit.1.1.0) (extended_word imm (legal.fit.1.1.1.0))) ((tt, word s (legal.fit.1.0)), (tt, ((tt, omega arith), ((tt, tt, omega arith), tt)))) (immediate_few (eqb a 0) a imm) (omega arith) (λ guest g. refl) (λ guest host g given. given.stores)
+    (immediate_are (eqb a 0) a imm (legal.fit.1.1.0) (extended_word imm (legal.fit.1.1.1.0))) ((tt, word s (legal.fit.1.0)), (tt, ((tt, omega arith), ((tt, tt, omega arith), tt)))) (immediate_short (eqb a 0) a imm) (omega arith) (λ guest g. refl) (λ guest host g given. given.stores)
     (λ guest host g range regs flags choices. (omega arith, immediate_addressed guest host (eqb a 0) a imm g regs flags choices (extended_word imm (legal.fit.1.1.1.0)))) (λ guest host. sth_stores guest host s (legal.fit.1.0))
 
 pub store_update_tile_does : (op : StoreUpdateOp) (s a imm : ℕ) → IsLegal (instr.StoreUpdate op s a imm) → IsTileOf (instr.StoreUpdate op s a imm) (immediate_address false a imm ++ (store_update_ops op s ++ update_ops true a))
 store_update_tile_does Stwu s a imm legal =
     store_does (instr.StoreUpdate Stwu s a imm) true a 4 (λ g. (g.locs a + sign_extended 16 imm) % 2 ^ 32) (λ A g. store_big 4 A (g.locs s) g.bytes) (legal.fit.1.1.0) (immediate_address false a imm) (stw_ops s) legal
-    (immediate_are false a imm (legal.fit.1.1.0) (extended_word imm (legal.fit.1.1.1.0))) ((tt, word s (legal.fit.1.0)), (tt, ((tt, tt, omega arith), tt))) (immediate_few false a imm) (omega arith) (λ guest g. refl) (λ guest host g given. given.stores)
+    (immediate_are false a imm (legal.fit.1.1.0) (extended_word imm (legal.fit.1.1.1.0))) ((tt, word s (legal.fit.1.0)), (tt, ((tt, tt, omega arith), tt))) (immediate_short false a imm) (omega arith) (λ guest g. refl) (λ guest host g given. given.stores)
     (λ guest host g range regs flags choices. (omega arith, immediate_addressed guest host false a imm g regs flags choices (extended_word imm (legal.fit.1.1.1.0)))) (λ guest host. stw_stores guest host s (legal.fit.1.0))
 store_update_tile_does Stbu s a imm legal =
     store_does (instr.StoreUpdate Stbu s a imm) true a 1 (λ g. (g.locs a + sign_extended 16 imm) % 2 ^ 32) (λ A g. store_big 1 A (g.locs s % 2 ^ 8) g.bytes) (legal.fit.1.1.0) (immediate_address false a imm) (stb_ops s) legal
-    (immediate_are false a imm (legal.fit.1.1.0) (extended_word imm (legal.fit.1.1.1.0))) ((tt, word s (legal.fit.1.0)), ((tt, tt, omega arith), tt)) (immediate_few false a imm) (omega arith) (λ guest g. refl) (λ guest host g given. given.stores)
+    (immediate_are false a imm (legal.fit.1.1.0) (extended_word imm (legal.fit.1.1.1.0))) ((tt, word s (legal.fit.1.0)), ((tt, tt, omega arith), tt)) (immediate_short false a imm) (omega arith) (λ guest g. refl) (λ guest host g given. given.stores)
     (λ guest host g range regs flags choices. (omega arith, immediate_addressed guest host false a imm g regs flags choices (extended_word imm (legal.fit.1.1.1.0)))) (λ guest host. stb_stores guest host s (legal.fit.1.0))
 store_update_tile_does Sthu s a imm legal =
     store_does (instr.StoreUpdate Sthu s a imm) true a 2 (λ g. (g.locs a + sign_extended 16 imm) % 2 ^ 32) (λ A g. store_big 2 A (g.locs s % 2 ^ 16) g.bytes) (legal.fit.1.1.0) (immediate_address false a imm) (sth_ops s) legal
-    (immediate_are false a imm (legal.fit.1.1.0) (extended_word imm (legal.fit.1.1.1.0))) ((tt, word s (legal.fit.1.0)), (tt, ((tt, omega arith), ((tt, tt, omega arith), tt)))) (immediate_few false a imm) (omega arith) (λ guest g. refl) (λ guest host g given. given.stores)
+    (immediate_are false a imm (legal.fit.1.1.0) (extended_word imm (legal.fit.1.1.1.0))) ((tt, word s (legal.fit.1.0)), (tt, ((tt, omega arith), ((tt, tt, omega arith), tt)))) (immediate_short false a imm) (omega arith) (λ guest g. refl) (λ guest host g given. given.stores)
     (λ guest host g range regs flags choices. (omega arith, immediate_addressed guest host false a imm g regs flags choices (extended_word imm (legal.fit.1.1.1.0)))) (λ guest host. sth_stores guest host s (legal.fit.1.0))
 
 pub store_indexed_tile_does : (op : StoreIndexedOp) (s a b : ℕ) → IsLegal (instr.StoreIndexed op s a b) → IsTileOf (instr.StoreIndexed op s a b) (indexed_address (eqb a 0) a b ++ (store_indexed_ops op s ++ update_ops false a))
 store_indexed_tile_does Stwx s a b legal =
     store_does (instr.StoreIndexed Stwx s a b) false a 4 (λ g. (cond (eqb a 0) 0 (g.locs a) + g.locs b) % 2 ^ 32) (λ A g. store_big 4 A (g.locs s) g.bytes) (legal.fit.1.1.0) (indexed_address (eqb a 0) a b) (stw_ops s) legal
-    (indexed_are (eqb a 0) a b (legal.fit.1.1.0) (legal.fit.1.1.1.0)) ((tt, word s (legal.fit.1.0)), (tt, ((tt, tt, omega arith), tt))) (indexed_few (eqb a 0) a b) (omega arith) (λ guest g. refl) (λ guest host g given. given.stores)
+    (indexed_are (eqb a 0) a b (legal.fit.1.1.0) (legal.fit.1.1.1.0)) ((tt, word s (legal.fit.1.0)), (tt, ((tt, tt, omega arith), tt))) (indexed_short (eqb a 0) a b) (omega arith) (λ guest g. refl) (λ guest host g given. given.stores)
     (λ guest host g range regs flags choices. (omega arith, indexed_addressed guest host (eqb a 0) a b g regs flags choices (gpr g b range (legal.fit.1.1.1.0)))) (λ guest host. stw_stores guest host s (legal.fit.1.0))
 store_indexed_tile_does Stbx s a b legal =
     store_does (instr.StoreIndexed Stbx s a b) false a 1 (λ g. (cond (eqb a 0) 0 (g.locs a) + g.locs b) % 2 ^ 32) (λ A g. store_big 1 A (g.locs s % 2 ^ 8) g.bytes) (legal.fit.1.1.0) (indexed_address (eqb a 0) a b) (stb_ops s) legal
-    (indexed_are (eqb a 0) a b (legal.fit.1.1.0) (legal.fit.1.1.1.0)) ((tt, word s (legal.fit.1.0)), ((tt, tt, omega arith), tt)) (indexed_few (eqb a 0) a b) (omega arith) (λ guest g. refl) (λ guest host g given. given.stores)
+    (indexed_are (eqb a 0) a b (legal.fit.1.1.0) (legal.fit.1.1.1.0)) ((tt, word s (legal.fit.1.0)), ((tt, tt, omega arith), tt)) (indexed_short (eqb a 0) a b) (omega arith) (λ guest g. refl) (λ guest host g given. given.stores)
     (λ guest host g range regs flags choices. (omega arith, indexed_addressed guest host (eqb a 0) a b g regs flags choices (gpr g b range (legal.fit.1.1.1.0)))) (λ guest host. stb_stores guest host s (legal.fit.1.0))
 store_indexed_tile_does Sthx s a b legal =
     store_does (instr.StoreIndexed Sthx s a b) false a 2 (λ g. (cond (eqb a 0) 0 (g.locs a) + g.locs b) % 2 ^ 32) (λ A g. store_big 2 A (g.locs s % 2 ^ 16) g.bytes) (legal.fit.1.1.0) (indexed_address (eqb a 0) a b) (sth_ops s) legal
-    (indexed_are (eqb a 0) a b (legal.fit.1.1.0) (legal.fit.1.1.1.0)) ((tt, word s (legal.fit.1.0)), (tt, ((tt, omega arith), ((tt, tt, omega arith), tt)))) (indexed_few (eqb a 0) a b) (omega arith) (λ guest g. refl) (λ guest host g given. given.stores)
+    (indexed_are (eqb a 0) a b (legal.fit.1.1.0) (legal.fit.1.1.1.0)) ((tt, word s (legal.fit.1.0)), (tt, ((tt, omega arith), ((tt, tt, omega arith), tt)))) (indexed_short (eqb a 0) a b) (omega arith) (λ guest g. refl) (λ guest host g given. given.stores)
     (λ guest host g range regs flags choices. (omega arith, indexed_addressed guest host (eqb a 0) a b g regs flags choices (gpr g b range (legal.fit.1.1.1.0)))) (λ guest host. sth_stores guest host s (legal.fit.1.0))
 store_indexed_tile_does Stwbrx s a b legal =
     store_does (instr.StoreIndexed Stwbrx s a b) false a 4 (λ g. (cond (eqb a 0) 0 (g.locs a) + g.locs b) % 2 ^ 32) (λ A g. store_big 4 A (word_reversed (g.locs s)) g.bytes) (legal.fit.1.1.0) (indexed_address (eqb a 0) a b) (stwbrx_ops s) legal
-    (indexed_are (eqb a 0) a b (legal.fit.1.1.0) (legal.fit.1.1.1.0)) ((tt, word s (legal.fit.1.0)), ((tt, tt, omega arith), tt)) (indexed_few (eqb a 0) a b) (omega arith) (λ guest g. refl) (λ guest host g given. given.stores)
+    (indexed_are (eqb a 0) a b (legal.fit.1.1.0) (legal.fit.1.1.1.0)) ((tt, word s (legal.fit.1.0)), ((tt, tt, omega arith), tt)) (indexed_short (eqb a 0) a b) (omega arith) (λ guest g. refl) (λ guest host g given. given.stores)
     (λ guest host g range regs flags choices. (omega arith, indexed_addressed guest host (eqb a 0) a b g regs flags choices (gpr g b range (legal.fit.1.1.1.0)))) (λ guest host. stwbrx_stores guest host s (legal.fit.1.0))
 store_indexed_tile_does Sthbrx s a b legal =
     store_does (instr.StoreIndexed Sthbrx s a b) false a 2 (λ g. (cond (eqb a 0) 0 (g.locs a) + g.locs b) % 2 ^ 32) (λ A g. store_big 2 A (half_reversed (g.locs s)) g.bytes) (legal.fit.1.1.0) (indexed_address (eqb a 0) a b) (sthbrx_ops s) legal
-    (indexed_are (eqb a 0) a b (legal.fit.1.1.0) (legal.fit.1.1.1.0)) ((tt, word s (legal.fit.1.0)), ((tt, tt, omega arith), tt)) (indexed_few (eqb a 0) a b) (omega arith) (λ guest g. refl) (λ guest host g given. given.stores)
+    (indexed_are (eqb a 0) a b (legal.fit.1.1.0) (legal.fit.1.1.1.0)) ((tt, word s (legal.fit.1.0)), ((tt, tt, omega arith), tt)) (indexed_short (eqb a 0) a b) (omega arith) (λ guest g. refl) (λ guest host g given. given.stores)
     (λ guest host g range regs flags choices. (omega arith, indexed_addressed guest host (eqb a 0) a b g regs flags choices (gpr g b range (legal.fit.1.1.1.0)))) (λ guest host. sthbrx_stores guest host s (legal.fit.1.0))
 
 pub store_indexed_update_tile_does : (op : StoreIndexedUpdateOp) (s a b : ℕ) → IsLegal (instr.StoreIndexedUpdate op s a b) → IsTileOf (instr.StoreIndexedUpdate op s a b) (indexed_address false a b ++ (store_indexed_update_ops op s ++ update_ops true a))
 store_indexed_update_tile_does Stwux s a b legal =
     store_does (instr.StoreIndexedUpdate Stwux s a b) true a 4 (λ g. (g.locs a + g.locs b) % 2 ^ 32) (λ A g. store_big 4 A (g.locs s) g.bytes) (legal.fit.1.1.0) (indexed_address false a b) (stw_ops s) legal
-    (indexed_are false a b (legal.fit.1.1.0) (legal.fit.1.1.1.0)) ((tt, word s (legal.fit.1.0)), (tt, ((tt, tt, omega arith), tt))) (indexed_few false a b) (omega arith) (λ guest g. refl) (λ guest host g given. given.stores)
+    (indexed_are false a b (legal.fit.1.1.0) (legal.fit.1.1.1.0)) ((tt, word s (legal.fit.1.0)), (tt, ((tt, tt, omega arith), tt))) (indexed_short false a b) (omega arith) (λ guest g. refl) (λ guest host g given. given.stores)
     (λ guest host g range regs flags choices. (omega arith, indexed_addressed guest host false a b g regs flags choices (gpr g b range (legal.fit.1.1.1.0)))) (λ guest host. stw_stores guest host s (legal.fit.1.0))
 store_indexed_update_tile_does Stbux s a b legal =
     store_does (instr.StoreIndexedUpdate Stbux s a b) true a 1 (λ g. (g.locs a + g.locs b) % 2 ^ 32) (λ A g. store_big 1 A (g.locs s % 2 ^ 8) g.bytes) (legal.fit.1.1.0) (indexed_address false a b) (stb_ops s) legal
-    (indexed_are false a b (legal.fit.1.1.0) (legal.fit.1.1.1.0)) ((tt, word s (legal.fit.1.0)), ((tt, tt, omega arith), tt)) (indexed_few false a b) (omega arith) (λ guest g. refl) (λ guest host g given. given.stores)
+    (indexed_are false a b (legal.fit.1.1.0) (legal.fit.1.1.1.0)) ((tt, word s (legal.fit.1.0)), ((tt, tt, omega arith), tt)) (indexed_short false a b) (omega arith) (λ guest g. refl) (λ guest host g given. given.stores)
     (λ guest host g range regs flags choices. (omega arith, indexed_addressed guest host false a b g regs flags choices (gpr g b range (legal.fit.1.1.1.0)))) (λ guest host. stb_stores guest host s (legal.fit.1.0))
 store_indexed_update_tile_does Sthux s a b legal =
     store_does (instr.StoreIndexedUpdate Sthux s a b) true a 2 (λ g. (g.locs a + g.locs b) % 2 ^ 32) (λ A g. store_big 2 A (g.locs s % 2 ^ 16) g.bytes) (legal.fit.1.1.0) (indexed_address false a b) (sth_ops s) legal
-    (indexed_are false a b (legal.fit.1.1.0) (legal.fit.1.1.1.0)) ((tt, word s (legal.fit.1.0)), (tt, ((tt, omega arith), ((tt, tt, omega arith), tt)))) (indexed_few false a b) (omega arith) (λ guest g. refl) (λ guest host g given. given.stores)
+    (indexed_are false a b (legal.fit.1.1.0) (legal.fit.1.1.1.0)) ((tt, word s (legal.fit.1.0)), (tt, ((tt, omega arith), ((tt, tt, omega arith), tt)))) (indexed_short false a b) (omega arith) (λ guest g. refl) (λ guest host g given. given.stores)
     (λ guest host g range regs flags choices. (omega arith, indexed_addressed guest host false a b g regs flags choices (gpr g b range (legal.fit.1.1.1.0)))) (λ guest host. sth_stores guest host s (legal.fit.1.0))

@@ -1,5 +1,6 @@
 -- Tiles of loads and stores.
-use Rattle.std.proofs.Common.{◌≡◌, ℕ, zero, suc, ◌+◌, ◌/◌, ◌%◌, ◌^◌, ◌<◌, ◌≤◌, Bool, true, false, cond, List, ◌++◌, Contains, Option, Some, None, refl, sym, ap, ◌∙◌, subst, arith, length, length-append}
+use Rattle.symbolic_tiles.proofs.Lengths.{room_append}
+use Rattle.std.proofs.Common.{◌≡◌, ℕ, zero, suc, ◌+◌, ◌/◌, ◌%◌, ◌^◌, ◌<◌, ◌≤◌, Bool, true, false, cond, List, ◌++◌, Contains, Option, Some, None, refl, sym, ap, ◌∙◌, subst, arith}
 use Rattle.word_kit.specs.Words.{sign_extended}
 use Rattle.space.specs.declared.call.End.TheVariants.{Outside}
 use Rattle.ppc_isa.specs.declared.instr.Instr.{Instr}
@@ -21,7 +22,7 @@ use Rattle.base_mem.specs.Stores.{stw_ops, update_ops}
 use Rattle.row_laws.proofs.Lists.{first_in, later_in}
 use Rattle.symbolic_tiles.specs.SymbolicState.{SymbolicState, execute_ops, then_ops, can_load, can_store}
 use Rattle.symbolic_tiles.proofs.Shows.{bytes_held}
-use Rattle.symbolic_tiles.specs.Tiles.{IsTileOf}
+use Rattle.symbolic_tiles.specs.Tiles.{IsTileOf, room_of}
 use Rattle.symbolic_tiles.proofs.Done.{state_of, Given, IsStateOf}
 use Rattle.symbolic_tiles.proofs.TileOf.{ops_are_tile}
 use Rattle.symbolic_tiles.proofs.Small.{both_true}
@@ -122,12 +123,12 @@ put_are_ops : (u : Bool) (d a : ℕ) → d < 32 → a < 32 → AreWellFormed (pu
 put_are_ops true d a ld la = ((word d ld, tt), ((word a la, tt), tt))
 put_are_ops false d a ld la = ((word d ld, tt), tt)
 
-put_few : (u : Bool) (d a : ℕ) → length (put_ops u d a) ≤ 2
-put_few true d a = omega arith
-put_few false d a = omega arith
+put_short : (u : Bool) (d a : ℕ) → room_of (put_ops u d a) ≤ 12
+put_short true d a = omega arith
+put_short false d a = omega arith
 
-few : (xs ys zs : List SymbolicOp) → length xs ≤ 2 → length ys ≤ 4 → length zs ≤ 2 → length (xs ++ (ys ++ zs)) ≤ 128
-few xs ys zs lx ly lz = let e = length-append xs (ys ++ zs) in let f = length-append ys zs in omega (arith, e, f)
+whole_short : (xs ys zs : List SymbolicOp) → room_of xs ≤ 12 → room_of ys ≤ 25 → room_of zs ≤ 12 → room_of (xs ++ (ys ++ zs)) ≤ 631
+whole_short xs ys zs lx ly lz = let e = room_append xs (ys ++ zs) in let f = room_append ys zs in omega (arith, e, f, lx, ly, lz)
 
 updated_fields : (u : Bool) (a A : ℕ) (l : ℕ → ℕ) → a < 32 → AreFields l → AreFields (updated u a A l)
 updated_fields true a A l la h = fields_put_word a A l (word a la) h
@@ -140,13 +141,13 @@ module _ (i : Instr) (u : Bool) (d a n : ℕ) (A : Guest → ℕ) (value : ℕ �
   abbrev pub IsLoad : Type 0
   IsLoad = (guest : Rights) (g : Guest) → acts guest i (effect_of i g) g ≡ cond (each_byte guest.held n (A g)) (Goes (loaded_guest g)) (Ends Outside)
 
-  pub load_does : (address ops : List SymbolicOp) → IsLegal i → AreWellFormed address → AreWellFormed ops → length address ≤ 2 → length ops ≤ 4 → IsLoad →
+  pub load_does : (address ops : List SymbolicOp) → IsLegal i → AreWellFormed address → AreWellFormed ops → room_of address ≤ 12 → room_of ops ≤ 25 → IsLoad →
       ((guest host : Rights) (g : Guest) → Given i guest host g → (k : ℕ) → Contains (span n (A g)) k → host.held k ≡ true) →
       ((guest host : Rights) (g : Guest) → AreInRange g → (regs : ℕ → ℕ) (flags : Flags) (choices : List Choice) → (A g < 2 ^ 32) × Then (HasAddress (A g) g) (execute_ops guest host address choices (state_of g regs flags))) →
       ((guest host : Rights) → Loads guest host n ops value) →
       IsTileOf i (address ++ (ops ++ put_ops u d a))
   load_does address ops legal are are' short short' row held addressed loads =
-      ops_are_tile i (address ++ (ops ++ put_ops u d a)) legal (both_ops address (ops ++ put_ops u d a) are (both_ops ops (put_ops u d a) are' (put_are_ops u d a ld la))) (few address ops (put_ops u d a) short short' (put_few u d a))
+      ops_are_tile i (address ++ (ops ++ put_ops u d a)) legal (both_ops address (ops ++ put_ops u d a) are (both_ops ops (put_ops u d a) are' (put_are_ops u d a ld la))) (whole_short address ops (put_ops u d a) short short' (put_short u d a))
       (λ guest g g' range leads.
       let e = (goes_inside (each_byte guest.held n (A g)) (loaded_guest g) g' (sym (row guest g) ∙ leads)).1 in
       subst (λ h. (x : ℕ) → 34 ≤ x → x < 46 → h.locs x < location_range x) e (updated_fields u a (A g) (update g.locs d (value (A g) g.bytes)) la (fields_put_word d (value (A g) g.bytes) g.locs (word d ld) (λ x lx ux. range x ux))))
@@ -166,9 +167,9 @@ module _ (i : Instr) (u : Bool) (d a n : ℕ) (A : Guest → ℕ) (value : ℕ �
           by_state None h = absurd h
           by_state (Some t) h = (λ x lx. ap (λ l. l x) h.0 ∙ ap (λ k. k.locs x) e, λ k held. ap (λ l. l k) h.1 ∙ ap (λ k'. k'.bytes k) e)
 
-pub immediate_few : (z : Bool) (a imm : ℕ) → length (immediate_address z a imm) ≤ 2
-immediate_few true a imm = omega arith
-immediate_few false a imm = omega arith
+pub immediate_short : (z : Bool) (a imm : ℕ) → room_of (immediate_address z a imm) ≤ 12
+immediate_short true a imm = omega arith
+immediate_short false a imm = omega arith
 
 pub immediate_are : (z : Bool) (a imm : ℕ) → a < 32 → sign_extended 16 imm < 2 ^ 32 → AreWellFormed (immediate_address z a imm)
 immediate_are true a imm la lv = ((tt, lv), tt)
@@ -209,9 +210,9 @@ update_are_ops : (u : Bool) (a : ℕ) → a < 32 → AreWellFormed (update_ops u
 update_are_ops true a la = ((word a la, tt), tt)
 update_are_ops false a la = tt
 
-update_few : (u : Bool) (a : ℕ) → length (update_ops u a) ≤ 2
-update_few true a = omega arith
-update_few false a = omega arith
+update_short : (u : Bool) (a : ℕ) → room_of (update_ops u a) ≤ 12
+update_short true a = omega arith
+update_short false a = omega arith
 
 pub all_held : (guest : Rights) → WritesHeld guest → (n a : ℕ) → each_byte guest.writable n a ≡ true → each_byte guest.held n a ≡ true
 unfolding each_byte
@@ -229,13 +230,13 @@ module _ (i : Instr) (u : Bool) (a n : ℕ) (A : Guest → ℕ) (bytes : ℕ →
   abbrev pub IsStore : Type 0
   IsStore = (guest : Rights) (g : Guest) → acts guest i (effect_of i g) g ≡ cond (each_byte guest.writable n (A g)) (Goes (stored_guest g)) (Ends Outside)
 
-  pub store_does : (address ops : List SymbolicOp) → IsLegal i → AreWellFormed address → AreWellFormed ops → length address ≤ 2 → length ops ≤ 4 → IsStore →
+  pub store_does : (address ops : List SymbolicOp) → IsLegal i → AreWellFormed address → AreWellFormed ops → room_of address ≤ 12 → room_of ops ≤ 25 → IsStore →
       ((guest host : Rights) (g : Guest) → Given i guest host g → (k : ℕ) → Contains (span n (A g)) k → host.writable k ≡ true) →
       ((guest host : Rights) (g : Guest) → AreInRange g → (regs : ℕ → ℕ) (flags : Flags) (choices : List Choice) → (A g < 2 ^ 32) × Then (HasAddress (A g) g) (execute_ops guest host address choices (state_of g regs flags))) →
       ((guest host : Rights) → Stores guest host n ops bytes) →
       IsTileOf i (address ++ (ops ++ update_ops u a))
   store_does address ops legal are are' short short' row writable addressed puts =
-      ops_are_tile i (address ++ (ops ++ update_ops u a)) legal (both_ops address (ops ++ update_ops u a) are (both_ops ops (update_ops u a) are' (update_are_ops u a la))) (few address ops (update_ops u a) short short' (update_few u a))
+      ops_are_tile i (address ++ (ops ++ update_ops u a)) legal (both_ops address (ops ++ update_ops u a) are (both_ops ops (update_ops u a) are' (update_are_ops u a la))) (whole_short address ops (update_ops u a) short short' (update_short u a))
       (λ guest g g' range leads.
       let e = (goes_inside (each_byte guest.writable n (A g)) (stored_guest g) g' (sym (row guest g) ∙ leads)).1 in
       subst (λ h. (x : ℕ) → 34 ≤ x → x < 46 → h.locs x < location_range x) e (updated_fields u a (A g) g.locs la (λ x lx ux. range x ux)))

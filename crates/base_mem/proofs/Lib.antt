@@ -3,3 +3,4 @@ pub mod AccessTiles
 pub mod Many
 pub mod RegisterLoops
 pub mod Tiles
+pub mod Straight

@@ -1,5 +1,6 @@
 -- Tiles of lmw and stmw.
-use Rattle.std.proofs.Common.{◌≡◌, ◌≢◌, ℕ, zero, suc, ◌+◌, ◌-◌, ◌*◌, ◌%◌, ◌^◌, ◌<◌, ◌≤◌, ◌⊎◌, inl, inr, Bool, true, false, cond, ◌&&◌, eqb, leb, ltb, List, ◌++◌, refl, sym, ap, ◌∙◌, subst, arith, length, length-append}
+use Rattle.symbolic_tiles.proofs.Lengths.{room_append}
+use Rattle.std.proofs.Common.{◌≡◌, ◌≢◌, ℕ, zero, suc, ◌+◌, ◌-◌, ◌*◌, ◌%◌, ◌^◌, ◌<◌, ◌≤◌, ◌⊎◌, inl, inr, Bool, true, false, cond, ◌&&◌, eqb, leb, ltb, List, ◌++◌, refl, sym, ap, ◌∙◌, subst, arith}
 use Rattle.std.proofs.lemmas.Bool.Decides.{nat_tests}
 use Rattle.word_kit.specs.Words.{sign_extended}
 use Rattle.ppc_isa.specs.declared.instr.Instr.TheVariants.{Multiple}
@@ -18,13 +19,13 @@ use Rattle.symbolic_tiles.proofs.Memory.{update_same, update_other, store_same}
 use Rattle.symbolic_tiles.proofs.Places.{each_of}
 use Rattle.symbolic_tiles.specs.SymbolicState.{SymbolicState, execute_ops, can_load, can_store}
 use Rattle.symbolic_tiles.proofs.Shows.{bytes_held}
-use Rattle.symbolic_tiles.specs.Tiles.{IsTileOf}
+use Rattle.symbolic_tiles.specs.Tiles.{IsTileOf, room_of}
 use Rattle.symbolic_tiles.proofs.Done.{state_of, IsStateOf}
 use Rattle.symbolic_tiles.proofs.TileOf.{ops_are_tile, then_more}
 use Rattle.symbolic_tiles.proofs.Small.{both_true}
 use Rattle.symbolic_tiles.proofs.Results.{Then, both_ops, ops_then}
 use Rattle.symbolic_tiles.proofs.Registers.{gpr, extended_word}
-use Rattle.base_mem.proofs.Accesses.{goes_inside, each_in_span, all_held, inside_then, Inside, HasAddress, immediate_addressed, immediate_are, immediate_few, swapped_word_is, stored_word_is}
+use Rattle.base_mem.proofs.Accesses.{goes_inside, each_in_span, all_held, inside_then, Inside, HasAddress, immediate_addressed, immediate_are, immediate_short, swapped_word_is, stored_word_is}
 
 -- addresses wrap
 load_wraps : (a : ℕ) (f : ℕ → ℕ) → load_big 4 (a % 2 ^ 32) f ≡ load_big 4 a f
@@ -90,14 +91,14 @@ unfolding lmw_ops
 lmw_are zero d le = tt
 lmw_are (suc n) d le = both_ops (one_load (31 - n) d) (lmw_ops n d) ((tt, tt, omega arith), (tt, ((omega arith, tt), tt))) (lmw_are n d (omega arith))
 
-lmw_few : (n d : ℕ) → length (lmw_ops n d) ≤ 3 * n
+lmw_short : (n d : ℕ) → room_of (lmw_ops n d) ≤ 19 * n
 unfolding lmw_ops
-lmw_few zero d = omega arith
-lmw_few (suc n) d = let h = lmw_few n d in omega (arith, h)
+lmw_short zero d = omega arith
+lmw_short (suc n) d = let h = lmw_short n d in omega (arith, h)
 
 pub lmw_does : (d a imm : ℕ) → IsLegal (Multiple Lmw d a imm) → IsTileOf (Multiple Lmw d a imm) (immediate_address (eqb a 0) a imm ++ lmw_ops (32 - d) d)
 lmw_does d a imm legal =
-    ops_are_tile (Multiple Lmw d a imm) (immediate_address (eqb a 0) a imm ++ lmw_ops (32 - d) d) legal (both_ops (immediate_address (eqb a 0) a imm) (lmw_ops (32 - d) d) (immediate_are (eqb a 0) a imm la lv) (lmw_are (32 - d) d (omega arith))) (let h = immediate_few (eqb a 0) a imm in let k = lmw_few (32 - d) d in let e = length-append (immediate_address (eqb a 0) a imm) (lmw_ops (32 - d) d) in omega (arith, h, k, e))
+    ops_are_tile (Multiple Lmw d a imm) (immediate_address (eqb a 0) a imm ++ lmw_ops (32 - d) d) legal (both_ops (immediate_address (eqb a 0) a imm) (lmw_ops (32 - d) d) (immediate_are (eqb a 0) a imm la lv) (lmw_are (32 - d) d (omega arith))) (let h = immediate_short (eqb a 0) a imm in let k = lmw_short (32 - d) d in let e = room_append (immediate_address (eqb a 0) a imm) (lmw_ops (32 - d) d) in omega (arith, h, k, e))
     (λ guest g g' range leads.
     let e = (goes_inside (each_byte guest.held (4 * (32 - d)) (address g)) (after g) g' leads).1 in
     subst (λ h. (z : ℕ) → 34 ≤ z → z < 46 → h.locs z < location_range z) e (λ z lz uz. subst (λ v. v < location_range z) (sym (past (address g) g z (omega arith))) (range z uz)))
@@ -173,14 +174,14 @@ unfolding stmw_ops
 stmw_are zero s le = tt
 stmw_are (suc n) s le = both_ops (one_store (31 - n) s) (stmw_ops n s) ((tt, omega arith), (tt, ((tt, tt, omega arith), tt))) (stmw_are n s (omega arith))
 
-stmw_few : (n s : ℕ) → length (stmw_ops n s) ≤ 3 * n
+stmw_short : (n s : ℕ) → room_of (stmw_ops n s) ≤ 19 * n
 unfolding stmw_ops
-stmw_few zero s = omega arith
-stmw_few (suc n) s = let h = stmw_few n s in omega (arith, h)
+stmw_short zero s = omega arith
+stmw_short (suc n) s = let h = stmw_short n s in omega (arith, h)
 
 pub stmw_does : (s a imm : ℕ) → IsLegal (Multiple Stmw s a imm) → IsTileOf (Multiple Stmw s a imm) (immediate_address (eqb a 0) a imm ++ stmw_ops (32 - s) s)
 stmw_does s a imm legal =
-    ops_are_tile (Multiple Stmw s a imm) (immediate_address (eqb a 0) a imm ++ stmw_ops (32 - s) s) legal (both_ops (immediate_address (eqb a 0) a imm) (stmw_ops (32 - s) s) (immediate_are (eqb a 0) a imm la lv) (stmw_are (32 - s) s (omega arith))) (let h = immediate_few (eqb a 0) a imm in let k = stmw_few (32 - s) s in let e = length-append (immediate_address (eqb a 0) a imm) (stmw_ops (32 - s) s) in omega (arith, h, k, e))
+    ops_are_tile (Multiple Stmw s a imm) (immediate_address (eqb a 0) a imm ++ stmw_ops (32 - s) s) legal (both_ops (immediate_address (eqb a 0) a imm) (stmw_ops (32 - s) s) (immediate_are (eqb a 0) a imm la lv) (stmw_are (32 - s) s (omega arith))) (let h = immediate_short (eqb a 0) a imm in let k = stmw_short (32 - s) s in let e = room_append (immediate_address (eqb a 0) a imm) (stmw_ops (32 - s) s) in omega (arith, h, k, e))
     (λ guest g g' range leads.
     let e = (goes_inside (each_byte guest.writable (4 * (32 - s)) (address g)) (after g) g' leads).1 in
     subst (λ h. (z : ℕ) → 34 ≤ z → z < 46 → h.locs z < location_range z) e (λ z lz uz. range z uz))

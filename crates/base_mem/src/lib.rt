@@ -8,5 +8,7 @@ mod multiple;
 mod storing;
 mod tile;
 
-pub use laws::{tiles_are_placeable, tiles_are_tiles, tiles_do_rows};
+pub use laws::{
+    built_are_straight, tiles_are_placeable, tiles_are_short, tiles_are_tiles, tiles_do_rows,
+};
 pub use tile::{emit, is_built};

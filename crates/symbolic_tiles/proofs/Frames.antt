@@ -6,7 +6,8 @@ use Rattle.reg_map.specs.Place.{slot_of}
 use Rattle.machines.specs.Representation.{IsHomePage}
 use Rattle.machines.specs.Memory.{Rights}
 use Rattle.machines.proofs.Homes.{homes_apart}
-use Rattle.symbolic_tiles.specs.Row.{IsUnowned}
+use Rattle.machines.specs.Host.{Core}
+use Rattle.symbolic_tiles.specs.Row.{GoesThrough, IsUnowned}
 use Rattle.symbolic_tiles.specs.Laws.{LoadsKeepMemory}
 use Rattle.symbolic_tiles.proofs.Places.{home_within}
 
@@ -44,3 +45,8 @@ loads_keep_memory window m area guest host g g' before after ready done same = r
     by_held : (a : ℕ) → (a < area) ⊎ (area + 4096 ≤ a) → (b : Bool) → guest.held a ≡ b → after.bytes a ≡ before.bytes a
     by_held a far true h = done.represents.bytes a h ∙ ap (λ f. f a) same ∙ sym (ready.represents.bytes a h)
     by_held a far false h = done.memory a (outside_unowned m area guest host ready.page a h far)
+
+-- a core that there is
+pub goes_to : (o : Option Core) (P : Core → Type 0) → GoesThrough o P → (core : Core) × (o ≡ Some core) × P core
+goes_to None P h = absurd h
+goes_to (Some core) P h = (core, refl, h)

@@ -11,6 +11,7 @@ pub mod Rooms
 pub mod Shows
 pub mod Done
 pub mod Written
+pub mod Lengths
 pub mod Results
 pub mod Registers
 pub mod Relates

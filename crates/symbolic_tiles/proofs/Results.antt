@@ -1,7 +1,7 @@
 -- Tiles of forms that give one result, and may put CA and record.
 use Rattle.std.proofs.Common.{◌≡◌, ℕ, ◌^◌, ◌<◌, ◌≤◌, Bool, true, false, eqb, List, [], ◌∷◌, ◌++◌, length, drop, Option, Some, None, bit_and, refl, sym, ap, ◌∙◌, subst, arith}
 use Rattle.std.proofs.lemmas.Bool.Decides.{nat_tests}
-use Rattle.std.proofs.lemmas.List.{length-append}
+use Rattle.symbolic_tiles.proofs.Lengths.{room_append}
 use Rattle.word_kit.specs.Words.{one_if}
 use Rattle.ppc_isa.specs.declared.instr.Instr.{Instr}
 use Rattle.ppc_isa.specs.Legal.{IsLegal}
@@ -16,7 +16,7 @@ use Rattle.machines.specs.Guest.{Guest, effect_of, acts, onward, results}
 use Rattle.machines.specs.Host.{Choice, choice_at}
 use Rattle.machines.specs.Representation.{AreInRange}
 use Rattle.symbolic_tiles.specs.Row.{DoesRow}
-use Rattle.symbolic_tiles.specs.Tiles.{IsTileOf}
+use Rattle.symbolic_tiles.specs.Tiles.{IsTileOf, room_of}
 use Rattle.symbolic_tiles.specs.SymbolicOps.{SymbolicOp, ops_of, AreWellFormed}
 use Rattle.symbolic_tiles.specs.Recording.{record_ops}
 use Rattle.row_laws.proofs.Shapes.{Gives}
@@ -70,9 +70,9 @@ record_are_ops : (records : Bool) → AreWellFormed (record_ops records)
 record_are_ops true = ((tt, tt), ((tt, omega arith), ((tt, omega arith), ((tt, tt), ((tt, omega arith), ((tt, tt), ((tt, (omega arith, omega arith)), ((tt, tt), (((omega arith, omega arith), tt), tt)))))))))
 record_are_ops false = tt
 
-with_record : (ops : List SymbolicOp) (records : Bool) → length ops ≤ 119 → length (ops ++ record_ops records) ≤ 128
-with_record ops true h = let e = length-append ops (record_ops true) in omega (arith, e, h)
-with_record ops false h = let e = length-append ops (record_ops false) in omega (arith, e, h)
+with_record : (ops : List SymbolicOp) (records : Bool) → room_of ops ≤ 570 → room_of (ops ++ record_ops records) ≤ 631
+with_record ops true h = let e = room_append ops (record_ops true) in omega (arith, e, h)
+with_record ops false h = let e = room_append ops (record_ops false) in omega (arith, e, h)
 
 module _ (i : Instr) (k : ℕ) (carries records : Bool) (number : Guest → ℕ) (carry : Guest → Bool) (lk : k < 32) where
   abbrev pub IsRow : Type 0
@@ -117,9 +117,9 @@ module _ (i : Instr) (k : ℕ) (carries records : Bool) (number : Guest → ℕ)
       (λ x. sym (row_results carries records k (number g) (carry g) (effect_of i g) (values_in i g) g.locs (omega arith) given.in_range (record { cr = refl; xer = refl }) (gives g) x) ∙ ap (λ h. h.locs x) e)
       (ap (λ h. h.bytes) e)))
 
-  pub results_do : (ops : List SymbolicOp) → IsLegal i → AreWellFormed ops → length ops ≤ 119 → IsRow → RowGives → OpsGive ops → IsTileOf i (ops ++ record_ops records)
+  pub results_do : (ops : List SymbolicOp) → IsLegal i → AreWellFormed ops → room_of ops ≤ 570 → IsRow → RowGives → OpsGive ops → IsTileOf i (ops ++ record_ops records)
   results_do ops legal are short row gives run = record {
     well_formed = both_ops ops (record_ops records) are (record_are_ops records);
-    few = with_record ops records short;
+    short = with_record ops records short;
     does = does_it ops legal are row gives run;
   }
