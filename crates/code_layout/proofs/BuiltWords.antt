@@ -1,14 +1,13 @@
 -- A built instruction is a flow word or none, and has a tile.
-use Rattle.std.proofs.Common.{◌≡◌, Bool, true, false, ◌⊎◌, inl, inr, refl, sym, ◌∙◌}
+use Rattle.std.proofs.Common.{◌≡◌, true, false, inl, inr, refl, sym, ◌∙◌}
 use Rattle.std.proofs.lemmas.Bool.{false≢true}
 use Rattle.ppc_isa.specs.declared.instr.Instr.{Instr}
 use Rattle.ppc_isa.specs.Map.{IsMap}
 use Rattle.row_laws.specs.FlowWords.{is_flow}
-use Rattle.base_alu.specs.Tile.{IsBuilt as IsBuiltStraight}
-use Rattle.base_alu.proofs.Straight.{built_are_straight}
+use Rattle.code_layout.proofs.StraightTiles.{built_are_straight}
 use Rattle.base_flow.specs.Tile.{IsBuilt as IsBuiltFlow, HasTile}
 use Rattle.base_flow.proofs.Tiles.{built_have_tiles}
-use Rattle.code_layout.specs.Built.{IsBuilt}
+use Rattle.code_layout.specs.Built.{IsBuiltStraight, IsBuilt}
 use Rattle.code_layout.specs.Places.{no_registers}
 
 pub is_map : IsMap no_registers

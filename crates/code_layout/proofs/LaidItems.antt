@@ -1,5 +1,5 @@
 -- Every item of a built instruction is laid out.
-use Rattle.std.proofs.Common.{ℕ, zero, suc, ◌≡◌, ◌<◌, Bool, true, false, ◌||◌, cond, List, [], ◌∷◌, ◌++◌, map, length, get_or, All, arith, refl, sym, subst, inl, inr, Result, Ok, Err, Vec, Global, IfOk}
+use Rattle.std.proofs.Common.{ℕ, zero, suc, ◌≡◌, Bool, true, false, cond, List, [], ◌∷◌, ◌++◌, map, All, arith, refl, sym, subst, Result, Ok, Err, Vec, Global, IfOk}
 use Rattle.std.proofs.lemmas.List.{append-nil}
 use Rattle.std.proofs.lemmas.List.Elements.{All-head, All-tail}
 use Rattle.ppc_isa.specs.Legal.{IsLegal, IsWordOf}
@@ -10,13 +10,12 @@ use Rattle.symbolic_tiles.specs.declared.flow_op.FlowOp.{FlowOp}
 use Rattle.symbolic_tiles.specs.declared.flow_op.FlowOp.TheVariants.{Plain, Jump, Mark, Edge, Leap}
 use Rattle.row_laws.specs.FlowWords.{is_flow}
 use Rattle.symbolic_tiles.specs.Marks.{AreLaid}
-use Rattle.base_alu.specs.Tile.{tile as alu_tile}
-use Rattle.base_alu.proofs.Tiles.{tiles_are_placeable}
+use Rattle.code_layout.proofs.StraightTiles.{tiles_are_placeable}
 use Rattle.base_flow.specs.Tile.{tile as flow_tile}
 use Rattle.base_flow.proofs.Tiles.{flow_tiles_are_laid}
 use Rattle.code_layout.specs.Built.{IsBuilt}
 use Rattle.code_layout.specs.Places.{no_registers}
-use Rattle.code_layout.specs.Code.{IsPlaceable, IsLaid, straight, items}
+use Rattle.code_layout.specs.Code.{word_ops, IsPlaceable, IsLaid, straight, items}
 use Rattle.code_layout.proofs.BuiltWords.{is_map, straight_word, has_tile}
 
 items-hold : (items : List FlowOp) → AreLaid items → All IsLaid items
@@ -44,13 +43,13 @@ all-laid i at ends built legal = by_flow (is_flow i) refl
   where
     by_flow : (b : Bool) → is_flow i ≡ b → All IsLaid (cond b (flow_tile i at no_registers) (straight i at ends))
     by_flow true e = items-hold (flow_tile i at no_registers) (flow_tiles_are_laid i no_registers at legal is_map (has_tile i built e))
-    by_flow false e = plain-hold (alu_tile i no_registers) _ (tiles_are_placeable i no_registers legal (straight_word i built e) is_map) (edge-holds ends (next_address at))
+    by_flow false e = plain-hold (word_ops i no_registers) _ (tiles_are_placeable i no_registers legal (straight_word i built e) is_map) (edge-holds ends (next_address at))
 
 -- the ops of a word that is no flow word, with the edge behind them
-pub items-edge : (i : Instr) (at next : ℕ) (ends : Bool) (ops : List Op) (flow : List FlowOp) → is_flow i ≡ false → ends ≡ true → next ≡ next_address at → ops ≡ alu_tile i no_registers → flow ≡ map (λ op. Plain op) ops → flow ++ Edge next ∷ [] ≡ items i at ends
+pub items-edge : (i : Instr) (at next : ℕ) (ends : Bool) (ops : List Op) (flow : List FlowOp) → is_flow i ≡ false → ends ≡ true → next ≡ next_address at → ops ≡ word_ops i no_registers → flow ≡ map (λ op. Plain op) ops → flow ++ Edge next ∷ [] ≡ items i at ends
 items-edge i at next ends ops flow straight_on last here made plain = rw (straight_on, last, here, plain, made) refl
 
-pub items-inside : (i : Instr) (at : ℕ) (ends : Bool) (ops : List Op) (flow : List FlowOp) → is_flow i ≡ false → ends ≡ false → ops ≡ alu_tile i no_registers → flow ≡ map (λ op. Plain op) ops → flow ≡ items i at ends
+pub items-inside : (i : Instr) (at : ℕ) (ends : Bool) (ops : List Op) (flow : List FlowOp) → is_flow i ≡ false → ends ≡ false → ops ≡ word_ops i no_registers → flow ≡ map (λ op. Plain op) ops → flow ≡ items i at ends
 items-inside i at ends ops flow straight_on inside made plain = rw (straight_on, inside, plain, made) (sym (append-nil _))
 
 -- every item of a built instruction is laid out

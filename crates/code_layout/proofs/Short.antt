@@ -11,13 +11,12 @@ use Rattle.symbolic_tiles.specs.declared.flow_op.FlowOp.TheVariants.{Plain, Jump
 use Rattle.row_laws.specs.FlowWords.{is_flow}
 use Rattle.symbolic_tiles.specs.Marks.{flow_room, flows_room}
 use Rattle.symbolic_tiles.specs.Tiles.{spelled_bytes}
-use Rattle.base_alu.specs.Tile.{tile as alu_tile}
-use Rattle.base_alu.proofs.Tiles.{tiles_are_short}
+use Rattle.code_layout.proofs.StraightTiles.{tiles_are_short}
 use Rattle.base_flow.specs.Tile.{tile as flow_tile}
 use Rattle.base_flow.proofs.Room.{flow_tiles_are_short}
 use Rattle.code_layout.specs.Built.{IsBuilt}
 use Rattle.code_layout.specs.Places.{no_registers, no_moves}
-use Rattle.code_layout.specs.Code.{straight, items, items_length, item_length, jump_on, condition_of}
+use Rattle.code_layout.specs.Code.{word_ops, straight, items, items_length, item_length, jump_on, condition_of}
 use Rattle.code_layout.proofs.BuiltWords.{straight_word}
 
 edge-length : (ends : Bool) (next : ℕ) → items_length no_moves (cond ends (Edge next ∷ []) []) ≤ 5
@@ -59,7 +58,7 @@ each-short i at ends built legal = by_flow (is_flow i) refl
   where
     by_flow : (b : Bool) → is_flow i ≡ b → items_length no_moves (cond b (flow_tile i at no_registers) (straight i at ends)) ≤ 636
     by_flow true e = omega (arith, flows-short (flow_tile i at no_registers), flow_tiles_are_short i no_registers at)
-    by_flow false e = straight-short (alu_tile i no_registers) ends (next_address at) (tiles_are_short i no_registers legal (straight_word i built e)).1
+    by_flow false e = straight-short (word_ops i no_registers) ends (next_address at) (tiles_are_short i no_registers legal (straight_word i built e)).1
 
 pub items-short : {E : Type 0} (i : Instr) (at : ℕ) (ends : Bool) (result : Result (Vec FlowOp Global) E) → IsBuilt i → IsLegal i → IfOk result (λ v. v.items ≡ items i at ends) → IfOk result (λ v. items_length no_moves v.items ≤ 636)
 items-short i at ends (Ok v) built legal made = subst (λ (xs : List FlowOp). items_length no_moves xs ≤ 636) (sym made) (each-short i at ends built legal)

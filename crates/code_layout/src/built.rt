@@ -10,7 +10,7 @@ use ppc_isa::{Instr, decode};
 fn is_built(instr: &Instr) -> bool
     ensures { IsTrue result ↔ IsBuilt instr.now }
 {
-    base_alu::is_built(instr) || base_flow::is_built(instr)
+    base_alu::is_built(instr) || base_mem::is_built(instr) || base_flow::is_built(instr)
 }
 
 // Whether the word is an instruction that translation is built for.

@@ -11,7 +11,6 @@ use Rattle.ppc_isa.specs.declared.instr.Instr.{Instr}
 use Rattle.ppc_isa.proofs.ReadWords.{one_of}
 use Rattle.ia_codec.specs.Spelling.{spelling}
 use Rattle.ia_codec.specs.declared.op.Op.{Op}
-use Rattle.base_alu.specs.Tile.{tile as alu_tile}
 use Rattle.base_flow.specs.Tile.{tile as flow_tile}
 use Rattle.symbolic_tiles.specs.declared.flow_op.FlowOp.{FlowOp}
 use Rattle.symbolic_tiles.specs.declared.flow_op.FlowOp.TheVariants.{Plain, Edge}
@@ -28,7 +27,7 @@ use Rattle.code_layout.specs.Blocks.{address_of, in_block, IsSet}
 use Rattle.code_layout.specs.Built.{IsBuilt}
 use Rattle.code_layout.specs.Leaders.{IsLeader}
 use Rattle.code_layout.specs.Places.{no_registers, no_moves, Places, places_in}
-use Rattle.code_layout.specs.Code.{op_at, straight, items, IsLaid, items_bytes, item_length, items_length}
+use Rattle.code_layout.specs.Code.{word_ops, op_at, straight, items, IsLaid, items_bytes, item_length, items_length}
 use Rattle.code_layout.specs.declared.blocks.Laid.{Laid}
 use Rattle.code_layout.proofs.LaidItems.{items-laid}
 use Rattle.laid_code.specs.Bytes.{HasBytes}
@@ -96,11 +95,11 @@ module _ (reading : ℕ → Option Instr) (ops : List ℕ → Option Fetched) (P
   next_word k lt = let lows : address_of first (length words) < 2 ^ 32 = has.low in omega (arith, lows, lt)
 
   -- a word that goes on, before steps
-  word_before : (k : ℕ) (i : Instr) (steps : List PlanStep) (rest : List FlowOp) → k < length words → IsWordOf (slice_index words k) i → IsStraightWord i → All IsLaid (plain (alu_tile i no_registers) ++ rest) →
-      AreRight s no_registers (behind (address_of first k)) steps → AreRight s no_registers (address_of first k) (Tile (i ∷ []) (window_of i) (alu_tile i no_registers) ∷ steps)
+  word_before : (k : ℕ) (i : Instr) (steps : List PlanStep) (rest : List FlowOp) → k < length words → IsWordOf (slice_index words k) i → IsStraightWord i → All IsLaid (plain (word_ops i no_registers) ++ rest) →
+      AreRight s no_registers (behind (address_of first k)) steps → AreRight s no_registers (address_of first k) (Tile (i ∷ []) (window_of i) (word_ops i no_registers) ∷ steps)
   word_before k i steps rest lt word st laid right = (
     straight_tile s (programs_write_held P) i st (address_of first k) (word_at k i lt word),
-    plain_laid (alu_tile i no_registers) rest laid,
+    plain_laid (word_ops i no_registers) rest laid,
     (λ x e. absurd (false≢true e)),
     straight_leads s (programs_write_held P) i st (address_of first k),
     right,
@@ -110,7 +109,7 @@ module _ (reading : ℕ → Option Instr) (ops : List ℕ → Option Fetched) (P
   last_word : (k here : ℕ) (i : Instr) (bound : ℕ) → k < length words → IsWordOf (slice_index words k) i → IsStraightWord i → k + 1 ≤ bound →
       All IsLaid (straight i (address_of first k) true) → HasBytes (code_of Q) here (items_bytes p here (straight i (address_of first k) true)) → BlockFrom k here bound
   last_word k here i bound lt word st le laid h = record {
-    steps = Tile (i ∷ []) (window_of i) (alu_tile i no_registers) ∷ [];
+    steps = Tile (i ∷ []) (window_of i) (word_ops i no_registers) ∷ [];
     right = word_before k i [] (Edge (behind (address_of first k)) ∷ []) lt word st laid tt;
     map_stays = refl;
     bytes = h;
@@ -124,7 +123,7 @@ module _ (reading : ℕ → Option Instr) (ops : List ℕ → Option Fetched) (P
       All IsLaid (straight i (address_of first k) false) → HasBytes (code_of Q) here (items_bytes p here (straight i (address_of first k) false)) →
       BlockFrom (k + 1) (here + items_length no_moves (straight i (address_of first k) false)) bound → BlockFrom k here bound
   inner_word k here i bound lt word st laid h rest =
-      let tile : List FlowOp = plain (alu_tile i no_registers) in
+      let tile : List FlowOp = plain (word_ops i no_registers) in
       let alone : straight i (address_of first k) false ≡ tile = append-nil tile in
       let there : ℕ = here + items_length no_moves tile in
       let next : address_of first (k + 1) ≡ behind (address_of first k) = sym (next_word k lt) in
@@ -135,10 +134,10 @@ module _ (reading : ℕ → Option Instr) (ops : List ℕ → Option Fetched) (P
       (subst (λ (x : List FlowOp). HasBytes (code_of Q) (here + items_length no_moves x) (items_bytes p (here + items_length no_moves x) (plan_items (address_of first (k + 1)) rest.steps))) alone rest.bytes) in
       let long : here + length (items_bytes p here tile) ≡ there = ap (λ (n : ℕ). here + n) (bytes_length p here tile) in
       record {
-        steps = Tile (i ∷ []) (window_of i) (alu_tile i no_registers) ∷ rest.steps;
+        steps = Tile (i ∷ []) (window_of i) (word_ops i no_registers) ∷ rest.steps;
         right = word_before k i rest.steps [] lt word st laid (subst (λ (w : ℕ). AreRight s no_registers w rest.steps) next rest.right);
         map_stays = rest.map_stays;
-        bytes = subst (HasBytes (code_of Q) here) (sym (plain_bytes p here (alu_tile i no_registers) tail)) (join_bytes (code_of Q) here (items_bytes p here tile) (items_bytes p there tail) front (subst (λ (a : ℕ). HasBytes (code_of Q) a (items_bytes p there tail)) (sym long) back));
+        bytes = subst (HasBytes (code_of Q) here) (sym (plain_bytes p here (word_ops i no_registers) tail)) (join_bytes (code_of Q) here (items_bytes p here tile) (items_bytes p there tail) front (subst (λ (a : ℕ). HasBytes (code_of Q) a (items_bytes p there tail)) (sym long) back));
         few = (omega (arith, rest.begins_few), rest.few);
         begins_few = refl;
         count = omega (arith, rest.count);

@@ -7,15 +7,13 @@ use Rattle.ia_codec.specs.declared.op.Op.{Op}
 use Rattle.runs.specs.Machine.{Outcome, Goes, Asks, Ends}
 use Rattle.machines.specs.Memory.{Rights}
 use Rattle.machines.specs.Guest.{Guest, behind, acts, effect_of}
-use Rattle.base_alu.specs.Tile.{tile as alu_tile}
 use Rattle.row_laws.specs.FlowWords.{is_flow}
 use Rattle.base_flow.specs.Tile.{tile as flow_tile}
 use Rattle.symbolic_tiles.specs.Row.{window_of, DoWindow}
 use Rattle.symbolic_tiles.specs.Row.{WritesHeld}
 use Rattle.symbolic_tiles.specs.Flow.{FlowDoesWord}
 use Rattle.symbolic_tiles.specs.Straight.{IsStraight}
-use Rattle.base_alu.proofs.Straight.{built_are_straight}
-use Rattle.base_alu.proofs.Tiles.{tiles_do_rows, tiles_are_short}
+use Rattle.code_layout.proofs.StraightTiles.{built_are_straight, tiles_do_rows, tiles_are_short}
 use Rattle.base_flow.proofs.Tiles.{built_have_tiles, flow_tiles_do_rows, flow_tiles_are_marked}
 use Rattle.symbolic_tiles.proofs.Straight.{rows_are_straight, accesses_are_inside}
 use Rattle.simulation.specs.Windows.{rows_of, IsQuiet}
@@ -23,7 +21,7 @@ use Rattle.simulation.specs.Setting.{Setting, IsWordAt}
 use Rattle.simulation.specs.Plan.{IsTile, LeadsTo}
 use Rattle.code_layout.specs.Built.{IsBuilt}
 use Rattle.code_layout.specs.Places.{no_registers}
-use Rattle.code_layout.specs.Code.{ops_at}
+use Rattle.code_layout.specs.Code.{word_ops, ops_at}
 use Rattle.laid_code.specs.Items.{AreMarked}
 use Rattle.laid_code.proofs.Marks.{as_marked}
 
@@ -33,8 +31,8 @@ is_map = record { ebx = tt; esi = tt; edi = tt; ebx_esi = tt; ebx_edi = tt; esi_
 -- an instruction that is no flow word, with a tile of ops
 pub record IsStraightWord (i : Instr) : Type 0 where
   pub straight : is_flow i ≡ false
-  pub few : length (alu_tile i no_registers) ≤ 128
-  pub does : (area : ℕ) → DoWindow (window_of i) no_registers area (ops_at area (alu_tile i no_registers))
+  pub few : length (word_ops i no_registers) ≤ 128
+  pub does : (area : ℕ) → DoWindow (window_of i) no_registers area (ops_at area (word_ops i no_registers))
 
 -- a flow word, with a tile of items
 pub record IsFlowingWord (i : Instr) : Type 0 where
@@ -59,7 +57,7 @@ module _ (s : Setting) (writes_held : WritesHeld s.guest) (i : Instr) (word : Is
   row_is g = one_row (acts s.guest i (effect_of i g) g) s.guest i g refl
 
   -- its tile does the word at a guest address
-  pub straight_tile : (w : ℕ) → IsWordAt s w (Some i) → IsTile s no_registers w (i ∷ []) (window_of i) (alu_tile i no_registers)
+  pub straight_tile : (w : ℕ) → IsWordAt s w (Some i) → IsTile s no_registers w (i ∷ []) (window_of i) (word_ops i no_registers)
   straight_tile w fetched = record {
     some = omega arith;
     few = word.few;
