@@ -52,7 +52,7 @@ plain_bytes p here (op ∷ ops) rest =
     ap (λ (x : List ℕ). spelling (op_at p.area op) ++ x) (plain_bytes p next ops rest ∙ ap (λ (n : ℕ). items_bytes p next (plain ops) ++ items_bytes p n rest) e)
     ∙ sym (append_assoc (spelling (op_at p.area op)) (items_bytes p next (plain ops)) _)
 
-plain_laid : (ops : List Op) (rest : List FlowOp) → All IsLaid (plain ops ++ rest) → ArePlaceable ops
+pub plain_laid : (ops : List Op) (rest : List FlowOp) → All IsLaid (plain ops ++ rest) → ArePlaceable ops
 plain_laid [] rest laid = tt
 plain_laid (op ∷ ops) rest laid = (All-head IsLaid (Plain op) (plain ops ++ rest) laid, plain_laid ops rest (All-tail IsLaid (Plain op) (plain ops ++ rest) laid))
 

@@ -20,7 +20,7 @@ byte_at (x ∷ xs) (suc k) j lk lj =
     let e : 4 * suc k + j ≡ suc (suc (suc (suc (4 * k + j)))) = omega arith in
     ap (λ n. get_or (flat_map (little_bytes 4) (x ∷ xs)) n 0) e ∙ byte_at xs k j (omega arith) lj
 
-word_at : (image : ℕ → ℕ) (table : ℕ) (xs : List ℕ) → table + 4 * length xs ≤ 2 ^ 32 → ((i : ℕ) → i < 4 * length xs → image (table + i) ≡ get_or (flat_map (little_bytes 4) xs) i 0) →
+pub word_at : (image : ℕ → ℕ) (table : ℕ) (xs : List ℕ) → table + 4 * length xs ≤ 2 ^ 32 → ((i : ℕ) → i < 4 * length xs → image (table + i) ≡ get_or (flat_map (little_bytes 4) xs) i 0) →
     (k : ℕ) → k < length xs → slice_index xs k < 2 ^ 32 → load 4 (table + 4 * k) image ≡ slice_index xs k
 unfolding load
 word_at image table xs low bytes k lk w =

@@ -7,8 +7,8 @@ mod registers;
 mod spelled;
 mod words;
 
-pub use home::{CR_HOME, gpr_home};
+pub use home::{CR_HOME, cr_has_its_home, gpr_home};
 pub use place::loc;
-pub use registers::{EAX, EBX, ECX, EDI, EDX, ESI};
+pub use registers::{EAX, EBX, ECX, EDI, EDX, ESI, registers_have_their_numbers};
 pub use spelled::{alu_from, mov_from};
 pub use words::signed_immediate;

@@ -74,8 +74,8 @@ returns c = λ P file bytes x.
     let area = x.area in
     let Q : Program = translated P code area in
     let written = is_written P area code x.laid in
-    let place = c.has_home.ensures P Q area (table_of code) code.bytes x.in_area written in
-    let carried = has_code P area code x.laid x.in_area place in
+    let place = c.has_home.ensures P Q area (table_of code) code.bytes x.in_area.area written in
+    let carried = has_code P area code x.laid x.in_area.area place in
     let narrowly : AgreesNarrowly P Q = λ reading ops reads_words reads_ops choices.
     let s : Setting = setting_of reading ops P Q (first_of P) area code.entries in
     let holds : IsTranslation s = record {
@@ -85,10 +85,10 @@ returns c = λ P file bytes x.
       keeps = c.host_keeps_unwritten.ensures.setting s (code_of Q) ops (λ h. refl);
       live = c.all_live_is_enough.ensures s (λ w y. refl);
       blocks = c.blocks_stand.ensures reading ops P Q (first_of P) x.laid.entry x.laid.words area code.entries reads_words reads_ops x.laid.has x.laid.built carried;
-      has_table = c.tables_stand.ensures reading ops P Q (first_of P) x.laid.entry x.laid.words area code.entries reads_ops x.laid.has carried (has_table P area code s x.laid x.in_area place refl refl refl);
+      has_table = c.tables_stand.ensures reading ops P Q (first_of P) x.laid.entry x.laid.words area code.entries reads_ops x.laid.has carried (has_table P area code s x.laid x.in_area.area place refl refl refl);
       doors = λ w. inl (refl, refl);
       holds = c.hold_stands.ensures reading ops P Q (first_of P) x.laid.entry x.laid.words area code.entries reads_ops carried;
     } in
-    let start = c.starts.ensures.start P Q area (table_of code) code.bytes s choices x.in_area written (c.loaded_has_bytes.ensures Ia32 file Q bytes x.loaded) (record { guest = refl; area_is = refl; image = refl; entry = starts_there P area code x.laid }) in
+    let start = c.starts.ensures.start P Q area (table_of code) code.bytes s choices x.in_area.area written (c.loaded_has_bytes.ensures Ia32 file Q bytes x.loaded) (record { guest = refl; area_is = refl; image = refl; entry = starts_there P area code x.laid }) in
     c.agrees.ensures s holds (guest_start P) (host_start Q choices) start in
     c.agrees_if_narrowly.ensures.files P Q file x.loaded narrowly
