@@ -8,7 +8,7 @@ use Rattle.ppc_isa.specs.declared.instr.Instr.{Instr}
 use Rattle.code_layout.specs.Blocks.{address_of, IsSet, IsCut}
 use Rattle.ppc_isa.specs.declared.instr.Instr.TheVariants.{Branch}
 use Rattle.machines.specs.Guest.{branch_target}
-use Rattle.symbolic_tiles.specs.FlowWords.{is_flow}
+use Rattle.row_laws.specs.FlowWords.{is_flow}
 use Rattle.code_layout.specs.Leaders.{named_address, Marks, IsBaseBy, IsBase, IsLeader}
 
 -- the base leaders by the first words are set

@@ -14,7 +14,7 @@ use Rattle.code_layout.specs.Places.{no_registers, Moves, Places}
 use Rattle.base_alu.specs.Tile.{tile as alu_tile}
 use Rattle.base_flow.specs.Tile.{tile as flow_tile}
 use Rattle.machines.specs.Guest.{behind as next_address}
-use Rattle.symbolic_tiles.specs.FlowWords.{is_flow}
+use Rattle.row_laws.specs.FlowWords.{is_flow}
 use Rattle.symbolic_tiles.specs.declared.flow_op.FlowOp.{FlowOp}
 use Rattle.symbolic_tiles.specs.declared.flow_op.FlowOp.TheVariants.{Plain, Jump, Mark, Edge, Leap}
 

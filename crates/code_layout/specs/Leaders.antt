@@ -6,7 +6,7 @@ use Rattle.ppc_isa.specs.declared.instr.Instr.{Instr}
 use Rattle.ppc_isa.specs.declared.instr.Instr.TheVariants.{Branch}
 use Rattle.machines.specs.Guest.{branch_target}
 use Rattle.code_layout.specs.Blocks.{address_of, IsCut}
-use Rattle.symbolic_tiles.specs.FlowWords.{is_flow}
+use Rattle.row_laws.specs.FlowWords.{is_flow}
 
 -- a block ends behind the word
 pub record IsFlowWord (word : ℕ) : Type 0 where
