@@ -2,3 +2,4 @@ pub mod FlowWords
 pub mod Branches
 pub mod Blocks
 pub mod Marks
+pub mod Laws
