@@ -8,6 +8,9 @@ typedef short i16;
 typedef int i32;
 typedef long long i64;
 
+int main(void);
+
+#ifdef __powerpc__
 /* The stack's first frame ends the chain of back links; the program's number is main's. */
 __asm__(".globl _start\n"
         "_start:\n"
@@ -18,8 +21,6 @@ __asm__(".globl _start\n"
         "\tli 0,1\n"
         "\tsc\n"
         "\ttrap\n");
-
-int main(void);
 
 /* A call with its operands; an error is answered as its number below 0. */
 static inline i32 call(u32 number, u32 first, u32 second, u32 third)
@@ -36,6 +37,23 @@ static inline i32 call(u32 number, u32 first, u32 second, u32 third)
     return (fields & 0x10000000) ? -(i32)r3 : (i32)r3;
 }
 
+#else
+/* The same on IA-32, for comparisons of speed. */
+__asm__(".globl _start\n"
+        "_start:\n"
+        "\tcall main\n"
+        "\tmov %eax,%ebx\n"
+        "\tmov $1,%eax\n"
+        "\tint $0x80\n");
+
+static inline i32 call(u32 number, u32 first, u32 second, u32 third)
+{
+    i32 result;
+    __asm__ volatile("int $0x80" : "=a"(result) : "a"(number), "b"(first), "c"(second), "d"(third) : "memory");
+    return result;
+}
+#endif
+
 static inline i32 read_bytes(u32 file, void *into, u32 count)
 {
     return call(3, file, (u32)into, count);
@@ -43,7 +61,11 @@ static inline i32 read_bytes(u32 file, void *into, u32 count)
 
 static inline i32 write_bytes(u32 file, const void *from, u32 count)
 {
+#ifdef QUIET
+    return (i32)count;
+#else
     return call(4, file, (u32)from, count);
+#endif
 }
 
 static u32 length_of(const char *text)

@@ -16,6 +16,7 @@ for source in *.c; do
         powerpc-linux-gnu-gcc $flags -$level $link -o "bin/$name.$level" "$source" -lgcc
         status=0
         qemu-ppc "bin/$name.$level" <"$input" >"bin/$name.$level.out" 2>/dev/null || status=$?
+        chmod -x "bin/$name.$level"
         echo "$status" >"bin/$name.$level.status"
         for what in out status; do
             if [ $level = O0 ]; then

@@ -3,7 +3,7 @@ use Rattle.std.specs.Prelude.{◌≡◌, ℕ, ◌+◌, ◌*◌, ◌<◌, List, l
 use Rattle.space.specs.declared.program.Kind.TheVariants.{Ia32}
 use Rattle.space.specs.declared.program.Program.{Program}
 use Rattle.branch_table.specs.declared.code.Code.{Code}
-use Rattle.elf_load.specs.Area.{IsArea}
+use Rattle.elf_load.specs.Area.{IsHostArea}
 use Rattle.elf_load.specs.Faults.{IsProgramOf}
 use Rattle.elf_emit.specs.File.{elf_file}
 use Rattle.elf_emit.specs.Translation.{FitsArea, file_segments, translated}
@@ -13,7 +13,7 @@ use Rattle.code_words.specs.Words.{HasWords, first_of}
 use Rattle.laid_code.specs.Instance.{AreBuilt}
 use Rattle.upkeep.specs.Loaded.{AreBytes}
 
--- The code that is laid out for a program over a host area: the block of each of its code words with the table of where
+-- The code that is laid out for a program over an area: the block of each of its code words with the table of where
 -- they stand, and the table's word of the one at which the program begins.
 pub record IsLaidFor (P : Program) (area : ℕ) (code : Code) : Type 0 where
   pub words : List ℕ
@@ -27,12 +27,12 @@ pub record IsLaidFor (P : Program) (area : ℕ) (code : Code) : Type 0 where
   pub start : code.start ≡ slice_index code.entries entry
   pub fits : FitsArea code
 
--- The file carries a program's translation: byte for byte it is the program's segments, and in a host area beside them
--- the home page, the table and the code that is laid out for the program; and it is loaded so.
+-- The file carries a program's translation: byte for byte it is the program's segments, and in the host area, the least
+-- that is free beside them, the home page, the table and the code that is laid out for the program; and it is loaded so.
 pub record Carries (P : Program) (file : List ℕ) : Type 0 where
   pub area : ℕ
   pub code : Code
-  pub in_area : IsArea P.segments area
+  pub in_area : IsHostArea P.segments area
   pub laid : IsLaidFor P area code
   pub whole : file ≡ elf_file code.start (file_segments P code area)
   pub loaded : IsProgramOf Ia32 file (translated P code area)

@@ -7,8 +7,8 @@ use Rattle.ppc_isa.specs.Legal.{IsWordOf}
 use Rattle.ppc_isa.specs.declared.instr.Instr.{Instr}
 use Rattle.code_layout.specs.Blocks.{address_of, IsSet, IsCut}
 use Rattle.ppc_isa.specs.declared.instr.Instr.TheVariants.{Branch}
-use Rattle.base_flow.specs.Target.{branch_target}
-use Rattle.code_layout.specs.Code.{is_flow}
+use Rattle.machines.specs.Guest.{branch_target}
+use Rattle.row_laws.specs.FlowWords.{is_flow}
 use Rattle.code_layout.specs.Leaders.{named_address, Marks, IsBaseBy, IsBase, IsLeader}
 
 -- the base leaders by the first words are set
@@ -80,7 +80,7 @@ bases_more first entry words index i old mid new spelled bases names behind k lt
       ]
     ]
 
-pub named_at : (first : ℕ) (r : Option ℕ) (i : Instr) (place count field at : ℕ) (absolute link : Bool) → i ≡ Branch field absolute link → at ≡ branch_target 26 field absolute (address_of first place) → MatchOption r ((k : ℕ) → k < count → at ≢ address_of first k) (λ k. (k < count) × (at ≡ address_of first k)) → MatchOption r ((k : ℕ) → k < count → named_address first i place ≢ Some (address_of first k)) (λ k. (k < count) × (named_address first i place ≡ Some (address_of first k)))
+pub named_at : (first : ℕ) (r : Option ℕ) (i : Instr) (place count field at : ℕ) (absolute link : Bool) → i ≡ Branch field absolute link → at ≡ branch_target 24 field absolute (address_of first place) → MatchOption r ((k : ℕ) → k < count → at ≢ address_of first k) (λ k. (k < count) × (at ≡ address_of first k)) → MatchOption r ((k : ℕ) → k < count → named_address first i place ≢ Some (address_of first k)) (λ k. (k < count) × (named_address first i place ≡ Some (address_of first k)))
 named_at first (Some k) i place count field at absolute link is aims found = (found.0, ap (λ (j : Instr). named_address first j place) is ∙ ap (λ (a : ℕ). Some a) (sym aims ∙ found.1))
 named_at first None i place count field at absolute link is aims found = λ k lt same. found k lt (aims ∙ ap (λ (o : Option ℕ). value o) (sym (ap (λ (j : Instr). named_address first j place) is) ∙ same))
   where

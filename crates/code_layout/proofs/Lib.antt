@@ -1,3 +1,4 @@
+pub mod BuiltWords
 pub mod Bases
 pub mod LaidItems
 pub mod Cuts
@@ -8,3 +9,4 @@ pub mod Laid
 pub mod Beginning
 pub mod Conditions
 pub mod Short
+pub mod Spelled

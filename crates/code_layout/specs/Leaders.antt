@@ -4,11 +4,11 @@ use Rattle.std.specs.Prelude.{ℕ, ◌≡◌, ◌<◌, ◌+◌, ◌⊎◌, true,
 use Rattle.ppc_isa.specs.Legal.{IsWordOf}
 use Rattle.ppc_isa.specs.declared.instr.Instr.{Instr}
 use Rattle.ppc_isa.specs.declared.instr.Instr.TheVariants.{Branch}
-use Rattle.base_flow.specs.Target.{branch_target}
+use Rattle.machines.specs.Guest.{branch_target}
 use Rattle.code_layout.specs.Blocks.{address_of, IsCut}
-use Rattle.code_layout.specs.Code.{is_flow}
+use Rattle.row_laws.specs.FlowWords.{is_flow}
 
--- b or sc: a block ends behind the word
+-- a block ends behind the word
 pub record IsFlowWord (word : ℕ) : Type 0 where
   pub instr : Instr
   pub spelled : IsWordOf word instr
@@ -16,7 +16,7 @@ pub record IsFlowWord (word : ℕ) : Type 0 where
 
 -- the address to which an instruction leads, where it is a b
 abbrev pub named_address : ℕ → Instr → ℕ → Option ℕ
-named_address first (Branch field absolute link) at = Some (branch_target 26 field absolute (address_of first at))
+named_address first (Branch field absolute link) at = Some (branch_target 24 field absolute (address_of first at))
 named_address first _ at = None
 
 -- the word at one place is a b to another place

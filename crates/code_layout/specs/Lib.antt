@@ -1,5 +1,8 @@
 pub mod Built
 pub mod Blocks
+pub mod Places
+pub mod PlacesOf
+pub mod Leap
 pub mod Code
 pub mod Leaders
 pub mod Layout

@@ -5,11 +5,10 @@ ghost use Rattle.ppc_isa.specs.Legal.{IsLegal};
 ghost use Rattle.code_layout.specs.Built.{IsBuiltWord};
 ghost use Rattle.code_layout.specs.Blocks.{address_of as address, IsAmong, IsCut, IsSet, code_order, singles, beginnings};
 ghost use Rattle.code_layout.specs.Leaders.{named_address, IsLeader};
-ghost use Rattle.code_layout.specs.Code.{is_flow as is_flow_of};
 
 use crate::built::instruction;
 use crate::source::Source;
-use base_flow::target;
+use base_flow::{is_flow, target};
 use ppc_isa::Instr;
 use std::alloc::Global;
 use word_kit::NoMemory;
@@ -50,13 +49,6 @@ pub fn place_at(first: u32, at: u32, count: usize) -> Option<usize>
     } else {
         None
     }
-}
-
-/// Whether a block ends behind the instruction.
-pub fn is_flow(instr: &Instr) -> bool
-    ensures { result ≡ is_flow_of instr.now }
-{
-    matches!(*instr, Instr::Branch { .. } | Instr::SystemCall)
 }
 
 /// Which code words are leaders: the first one, the one at which the run begins, those that a branch

@@ -4,25 +4,13 @@ ghost use Rattle.std.specs.Prelude.{◌≡◌, ◌<◌, ◌↔◌, ℕ, IsTrue, 
 ghost use Rattle.ppc_isa.specs.Legal.{IsWordOf};
 ghost use Rattle.code_layout.specs.Built.{IsBuilt, IsBuiltWord};
 
-use ppc_isa::{ArithmeticOp, ImmediateOp, Instr, decode};
+use ppc_isa::{Instr, decode};
 
-// Whether translation is built for the instruction: addi, add that doesn't record, b that doesn't
-// link, and sc.
+// Whether translation is built for the instruction.
 fn is_built(instr: &Instr) -> bool
     ensures { IsTrue result ↔ IsBuilt instr.now }
 {
-    matches!(
-        *instr,
-        Instr::Immediate {
-            op: ImmediateOp::Addi,
-            ..
-        } | Instr::Arithmetic {
-            op: ArithmeticOp::Add,
-            records: false,
-            ..
-        } | Instr::Branch { link: false, .. }
-            | Instr::SystemCall
-    )
+    base_alu::is_built(instr) || base_flow::is_built(instr)
 }
 
 // Whether the word is an instruction that translation is built for.

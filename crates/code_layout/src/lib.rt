@@ -5,6 +5,7 @@ mod blocks;
 mod built;
 mod code;
 mod layout;
+mod places;
 mod program_code;
 mod source;
 

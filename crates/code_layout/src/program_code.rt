@@ -5,13 +5,15 @@ ghost use Rattle.code_layout.specs.Built.{IsBuiltWord};
 ghost use Rattle.code_layout.specs.Layout.{IsCodeFor};
 
 use crate::blocks::{leaders, order};
-use crate::code::Layout;
 use crate::layout::{code, entries};
+use crate::places::Layout;
 use crate::source::Source;
 use branch_table::{Code, CodeBytes, Entries};
 use std::alloc::Global;
 use word_kit::NoMemory;
 
+// Where the table stands, behind the home page of 4 KiB.
+const TABLE_OFFSET: u32 = 0x1000;
 // Where the code stands behind the home page and the table, which has room for 512 KiB.
 const CODE_OFFSET: u32 = 0x8_1000;
 
@@ -32,6 +34,7 @@ pub fn lay(alloc: Global, source: &Source<'_>, area: u32) -> Result<Code, NoMemo
     let layout = Layout {
         area,
         code: start,
+        table: area + TABLE_OFFSET,
         first: source.first,
         entries: &entries,
     };

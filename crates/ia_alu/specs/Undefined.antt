@@ -1,6 +1,5 @@
 -- What each op leaves undefined, and so to the processor's choice: which of the four flags, and its result. The Intel
--- SDM, volume 2, under the op's name. That OF is undefined for every count of a shift or rotate but 0 and 1 is this
--- project's own.
+-- SDM, volume 2, under the op's name. For SF behind IMUL that is this project's own, since editions differ there.
 use Rattle.std.specs.Prelude.{ℕ, ◌≡◌, ◌%◌, Bool, true, false, eqb, ltb}
 use Rattle.ia_codec.specs.declared.op.UnaryOp.{UnaryOp}
 use Rattle.ia_codec.specs.declared.op.UnaryOp.TheVariants.{Not, Neg, Mul, Imul1, Div, Idiv}

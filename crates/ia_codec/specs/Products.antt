@@ -1,4 +1,5 @@
--- Products: the Intel SDM, volume 2, under MUL and IMUL. That ZF and SF are undefined is this project's own.
+-- Products: the Intel SDM, volume 2, under MUL and IMUL. ZF and SF are undefined; for SF behind IMUL that is this project's
+-- own, since editions differ there.
 use Rattle.std.specs.Prelude.{ℕ, ◌-◌, ◌^◌, Bool, true, false, cond, not, eqb, ◌*ℤ◌}
 use Rattle.word_kit.specs.Words.{is_negative, signed}
 use Rattle.word_kit.specs.Products.{product_low, product_high, fits_word}

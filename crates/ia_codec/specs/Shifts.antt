@@ -1,5 +1,5 @@
--- Shifts and rotates: the Intel SDM, volume 2, under SAL/SAR/SHL/SHR and RCL/RCR/ROL/ROR. The count is below 32.
--- That OF is undefined for every count but 0 and 1 is this project's own.
+-- Shifts and rotates: the Intel SDM, volume 2, under SAL/SAR/SHL/SHR and RCL/RCR/ROL/ROR. The count is below 32. As
+-- there, a count of 0 changes no flag, and OF is defined for a count of 1 alone.
 use Rattle.std.specs.Prelude.{ℕ, ◌-◌, ◌%◌, Bool, true, false, cond, not, eqb}
 use Rattle.word_kit.specs.Words.{is_negative, same}
 use Rattle.word_kit.specs.Bits.{bit_of, shifted_left, shifted_right, shifted_arith, rotated}

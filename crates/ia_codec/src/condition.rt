@@ -1,7 +1,9 @@
 //! The numbers of conditions.
 
-ghost use Rattle.std.specs.Prelude.{◌≡◌, IfSome, Some};
+ghost use Rattle.std.specs.Prelude.{◌≡◌, not, IfSome, Some};
 ghost use Rattle.std.specs.Int.Bits.{bit_xor};
+ghost use Rattle.ia_codec.specs.Effect.{Flags};
+ghost use Rattle.ia_codec.specs.Conditions.{condition_holds};
 ghost use Rattle.ia_codec.specs.Spelling.{condition_number};
 ghost use Rattle.ia_codec.specs.Reading.{condition_of_number};
 
@@ -39,9 +41,10 @@ impl Condition {
         self as u8
     }
 
-    /// The condition that holds where this one doesn't: its number has the other lowest bit.
+    /// The condition that holds exactly where this one doesn't. Its number has the other lowest bit.
     pub fn opposite(self) -> Condition
-        ensures { condition_number result ≡ bit_xor (condition_number self) 1 }
+        ensures holds { (flags : Flags) → condition_holds result flags ≡ not (condition_holds self flags) }
+        ensures number { condition_number result ≡ bit_xor (condition_number self) 1 }
     {
         match self {
             Condition::Below => Condition::NotBelow,

@@ -1,4 +1,4 @@
--- With no right to read the code a step is the same, and clean, or goes outside.
+-- With no right to read the code a step is the same, and clean, or goes outside; and a clean step is the same.
 use Rattle.std.proofs.Common.{◌≡◌, ℕ, zero, suc, ◌+◌, ◌%◌, ◌^◌, ◌⊎◌, inl, inr, Bool, true, false, cond, not, ◌&&◌, eqb, List, [], ◌∷◌, Option, Some, None, refl, ap}
 use Rattle.space.specs.declared.call.End.TheVariants.{Outside, DivideFault}
 use Rattle.space.specs.Reports.{AnswerValue}
@@ -25,44 +25,59 @@ each_of_both p q (suc n) a h =
     let rest = each_of_both p q n (a + 1) (second_of_both (p (a % 2 ^ 32) && q (a % 2 ^ 32)) _ h) in
     (both (p (a % 2 ^ 32)) (each_byte p n (a + 1)) (first_of_both _ (q (a % 2 ^ 32)) here) rest.0, both (q (a % 2 ^ 32)) (each_byte q n (a + 1)) (second_of_both (p (a % 2 ^ 32)) _ here) rest.1)
 
+both_of_each : (p q : ℕ → Bool) (n a : ℕ) → each_byte p n a ≡ true → each_byte q n a ≡ true → each_byte (λ x. p x && q x) n a ≡ true
+unfolding each_byte
+both_of_each p q zero a h k = refl
+both_of_each p q (suc n) a h k =
+    both (p (a % 2 ^ 32) && q (a % 2 ^ 32)) (each_byte (λ x. p x && q x) n (a + 1))
+    (both (p (a % 2 ^ 32)) (q (a % 2 ^ 32)) (first_of_both _ (each_byte p n (a + 1)) h) (first_of_both _ (each_byte q n (a + 1)) k))
+    (both_of_each p q n (a + 1) (second_of_both (p (a % 2 ^ 32)) _ h) (second_of_both (q (a % 2 ^ 32)) _ k))
+
 module _ (rights : Rights) (code : Code) where
   abbrev narrow : Rights
   narrow = without code rights
 
-  -- all is held, also in the larger space, and none of it is code; or not all is held
-  held_less : (n a : ℕ) → ((each_byte narrow.held n a ≡ true) × (each_byte rights.held n a ≡ true) × (each_byte (λ x. not (is_code code x)) n a ≡ true)) ⊎ (each_byte narrow.held n a ≡ false)
+  -- all is held, also in the larger space, and none of it is code; or not all is held, also there if none of it is code
+  abbrev HeldLess : ℕ → ℕ → Type 0
+  HeldLess n a = ((each_byte narrow.held n a ≡ true) × (each_byte rights.held n a ≡ true) × (each_byte (λ x. not (is_code code x)) n a ≡ true)) ⊎ ((each_byte narrow.held n a ≡ false) × (each_byte (λ x. not (is_code code x)) n a ≡ true → each_byte rights.held n a ≡ false))
+
+  held_less : (n a : ℕ) → HeldLess n a
   held_less n a = by_test (each_byte narrow.held n a) refl
     where
-      by_test : (b : Bool) → each_byte narrow.held n a ≡ b → ((each_byte narrow.held n a ≡ true) × (each_byte rights.held n a ≡ true) × (each_byte (λ x. not (is_code code x)) n a ≡ true)) ⊎ (each_byte narrow.held n a ≡ false)
+      by_wide : (b : Bool) → each_byte rights.held n a ≡ b → each_byte narrow.held n a ≡ false → each_byte (λ x. not (is_code code x)) n a ≡ true → each_byte rights.held n a ≡ false
+      by_wide true w e apart = let all = both_of_each rights.held (λ x. not (is_code code x)) n a w apart in cc
+      by_wide false w e apart = w
+
+      by_test : (b : Bool) → each_byte narrow.held n a ≡ b → HeldLess n a
       by_test true e = let parts = each_of_both rights.held (λ x. not (is_code code x)) n a e in inl (e, parts.0, parts.1)
-      by_test false e = inr e
+      by_test false e = inr (e, by_wide (each_byte rights.held n a) refl e)
 
   abbrev ReadsLess : Core → Place → Type 0
-  ReadsLess core place = ((reads narrow core place ≡ reads rights core place) × (is_apart code place ≡ true)) ⊎ (reads narrow core place ≡ None)
+  ReadsLess core place = ((reads narrow core place ≡ reads rights core place) × (is_apart code place ≡ true)) ⊎ ((reads narrow core place ≡ None) × (is_apart code place ≡ true → reads narrow core place ≡ reads rights core place))
 
   reads_less : (core : Core) (place : Place) → ReadsLess core place
   reads_less core (Register r) = inl (refl, refl)
   reads_less core (Memory size address) = by_held (held_less size address)
     where
-      by_held : ((each_byte narrow.held size address ≡ true) × (each_byte rights.held size address ≡ true) × (each_byte (λ x. not (is_code code x)) size address ≡ true)) ⊎ (each_byte narrow.held size address ≡ false) → ReadsLess core (Memory size address)
+      by_held : HeldLess size address → ReadsLess core (Memory size address)
       by_held (inl h) = inl (rw (h.0, h.1) refl, h.2)
-      by_held (inr e) = inr (rw e refl)
+      by_held (inr e) = inr (rw (e.0) refl, λ apart. rw (e.0, e.1 apart) refl)
 
-  -- the same in both spaces, with the fact that it is apart; or outside in the smaller
+  -- the same in both spaces, with the fact that it is apart; or outside in the smaller, and the same if it is apart
   abbrev Less : Outcome Host → Outcome Host → Bool → Type 0
-  Less small large apart = ((small ≡ large) × (apart ≡ true)) ⊎ (small ≡ Ends Outside)
+  Less small large apart = ((small ≡ large) × (apart ≡ true)) ⊎ ((small ≡ Ends Outside) × (apart ≡ true → small ≡ large))
 
   -- an op that reads at one place
   one_read : (next : ℕ) (h : Host) (place : Place) (then : ℕ → Option Core) → ReadsLess h.core place → Less (goes_to rights next h (bind (reads narrow h.core place) then)) (goes_to rights next h (bind (reads rights h.core place) then)) (is_apart code place)
   one_read next h place then (inl e) = inl (ap (λ (o : Option ℕ). goes_to rights next h (bind o then)) e.0, e.1)
-  one_read next h place then (inr e) = inr (ap (λ (o : Option ℕ). goes_to rights next h (bind o then)) e)
+  one_read next h place then (inr e) = inr (ap (λ (o : Option ℕ). goes_to rights next h (bind o then)) e.0, λ apart. ap (λ (o : Option ℕ). goes_to rights next h (bind o then)) (e.1 apart))
 
   system_less : (next : ℕ) (h : Host) → Less (system_call narrow next h) (system_call rights next h) (reads_apart code Int80 h.core)
   system_less next h = by_number (eqb (h.core.regs eax) 4) refl
     where
-      by_write : h.core.regs 0 ≡ 4 → ((each_byte narrow.held (h.core.regs edx) (h.core.regs ecx) ≡ true) × (each_byte rights.held (h.core.regs edx) (h.core.regs ecx) ≡ true) × (each_byte (λ x. not (is_code code x)) (h.core.regs edx) (h.core.regs ecx) ≡ true)) ⊎ (each_byte narrow.held (h.core.regs edx) (h.core.regs ecx) ≡ false) → Less (system_call narrow next h) (system_call rights next h) (reads_apart code Int80 h.core)
+      by_write : h.core.regs 0 ≡ 4 → HeldLess (h.core.regs edx) (h.core.regs ecx) → Less (system_call narrow next h) (system_call rights next h) (reads_apart code Int80 h.core)
       by_write e (inl held) = inl (rw (e, held.0, held.1) refl, rw (e, held.2) refl)
-      by_write e (inr held) = inr (rw (e, held) refl)
+      by_write e (inr held) = inr (rw (e, held.0) refl, λ apart. rw (e, held.0, held.1 (rw e at apart)) refl)
 
       by_number : (b : Bool) → eqb (h.core.regs eax) 4 ≡ b → Less (system_call narrow next h) (system_call rights next h) (reads_apart code Int80 h.core)
       by_number true e = by_write (equal (h.core.regs 0) 4 e) (held_less (h.core.regs edx) (h.core.regs ecx))
@@ -87,7 +102,7 @@ module _ (rights : Rights) (code : Code) where
 
   divides_less : (op : Op) (from : Place) (next : ℕ) (h : Host) → ReadsLess h.core from → Less (cond (faults_on narrow op (choice_at h.choices 0) h.core (reads narrow h.core from)) (Ends DivideFault) (goes_to rights next h (multiplies narrow op (choice_at h.choices 0) h.core (reads narrow h.core from)))) (cond (faults_on rights op (choice_at h.choices 0) h.core (reads rights h.core from)) (Ends DivideFault) (goes_to rights next h (multiplies rights op (choice_at h.choices 0) h.core (reads rights h.core from)))) (is_apart code from)
   divides_less op from next h (inl e) = inl (ap (λ (o : Option ℕ). cond (faults_on rights op (choice_at h.choices 0) h.core o) (Ends DivideFault) (goes_to rights next h (multiplies rights op (choice_at h.choices 0) h.core o))) e.0, e.1)
-  divides_less op from next h (inr e) = inr (ap (λ (o : Option ℕ). cond (faults_on rights op (choice_at h.choices 0) h.core o) (Ends DivideFault) (goes_to rights next h (multiplies rights op (choice_at h.choices 0) h.core o))) e)
+  divides_less op from next h (inr e) = inr (ap (λ (o : Option ℕ). cond (faults_on rights op (choice_at h.choices 0) h.core o) (Ends DivideFault) (goes_to rights next h (multiplies rights op (choice_at h.choices 0) h.core o))) e.0, λ apart. ap (λ (o : Option ℕ). cond (faults_on rights op (choice_at h.choices 0) h.core o) (Ends DivideFault) (goes_to rights next h (multiplies rights op (choice_at h.choices 0) h.core o))) (e.1 apart))
 
   unary_less : (op : UnaryOp) (on : Operand) (next : ℕ) (h : Host) → Less (unary_acts narrow op on next h) (unary_acts rights op on next h) (is_apart code (place_of 4 on h.core.regs))
   unary_less Not on next h = sets_less (Unary Not on) (place_of 4 on h.core.regs) (place_of 4 on h.core.regs) next h
@@ -98,7 +113,7 @@ module _ (rights : Rights) (code : Code) where
 
   jumps_to_less : (to : Place) (h : Host) → ReadsLess h.core to → Less (jumps_to narrow (reads narrow h.core to) h) (jumps_to rights (reads rights h.core to) h) (is_apart code to)
   jumps_to_less to h (inl e) = inl (ap (λ (o : Option ℕ). jumps_to rights o h) e.0, e.1)
-  jumps_to_less to h (inr e) = inr (ap (λ (o : Option ℕ). jumps_to rights o h) e)
+  jumps_to_less to h (inr e) = inr (ap (λ (o : Option ℕ). jumps_to rights o h) e.0, λ apart. ap (λ (o : Option ℕ). jumps_to rights o h) (e.1 apart))
 
   acts_less : (op : Op) (next : ℕ) (h : Host) → Less (acts narrow op next h) (acts rights op next h) (reads_apart code op h.core)
   acts_less (AluTo op to from) next h = changes_less (AluTo op to from) (has_result op) (place_of 4 to h.core.regs) (h.core.regs from) next h
@@ -127,7 +142,7 @@ module _ (rights : Rights) (code : Code) where
   module _ (ops : List ℕ → Option Fetched) where
     step_less : (h : Host) (b : Bool) → Less (executes narrow (ops (op_bytes code h.eip)) h) (executes rights (ops (op_bytes code h.eip)) h) (fetched_apart code (ops (op_bytes code h.eip)) h.core) → Less (cond b (executes narrow (ops (op_bytes code h.eip)) h) (Ends Outside)) (cond b (executes rights (ops (op_bytes code h.eip)) h) (Ends Outside)) (fetched_apart code (ops (op_bytes code h.eip)) h.core)
     step_less h true less = less
-    step_less h false less = inr refl
+    step_less h false less = inr (refl, λ _. refl)
 
     host_less : (h : Host) → Less (host_step narrow code ops h) (host_step rights code ops h) (fetched_apart code (ops (op_bytes code h.eip)) h.core)
     host_less h = step_less h (is_code code h.eip) (executes_less (ops (op_bytes code h.eip)) h)
@@ -137,14 +152,21 @@ module _ (rights : Rights) (code : Code) where
       where
         by_less : Less (host_step narrow code ops h) (host_step rights code ops h) (fetched_apart code (ops (op_bytes code h.eip)) h.core) → (host_step narrow code ops h ≡ host_step rights code ops h) ⊎ (host_step narrow code ops h ≡ Ends Outside)
         by_less (inl e) = inl e.0
-        by_less (inr e) = inr e
+        by_less (inr e) = inr e.0
 
     pub stays_is_clean : (h : Host) → StaysIn (host_step narrow code ops) (host_step rights code ops) h → IsClean code ops h
     stays_is_clean h stays = by_less (host_less h)
       where
         by_less : Less (host_step narrow code ops h) (host_step rights code ops h) (fetched_apart code (ops (op_bytes code h.eip)) h.core) → IsClean code ops h
         by_less (inl e) = e.1
-        by_less (inr e) = absurd (stays.inside e)
+        by_less (inr e) = absurd (stays.inside e.0)
+
+    pub clean_is_same : (h : Host) → IsClean code ops h → host_step narrow code ops h ≡ host_step rights code ops h
+    clean_is_same h clean = by_less (host_less h)
+      where
+        by_less : Less (host_step narrow code ops h) (host_step rights code ops h) (fetched_apart code (ops (op_bytes code h.eip)) h.core) → host_step narrow code ops h ≡ host_step rights code ops h
+        by_less (inl e) = e.0
+        by_less (inr e) = e.1 clean
 
 -- what follows from P at each step
 module _ {S : Type 0} (P Q : S → Type 0) (follows : (s : S) → P s → Q s) (step : S → Outcome S) where

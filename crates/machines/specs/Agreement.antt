@@ -4,7 +4,7 @@ use Rattle.space.specs.declared.program.Program.{Program}
 use Rattle.runs.specs.Machine.{Outcome, AgreesFrom, Anywhere}
 use Rattle.ppc_isa.specs.declared.instr.Instr.{Instr}
 use Rattle.ia_codec.specs.declared.op.Op.{Op}
-use Rattle.ia_codec.specs.declared.op.Op.TheVariants.{AluTo, AluFrom, AluImm, TestReg, TestImm, Unary, Imul, MovFrom, MovByteFrom, Shift, ShiftByCl, Extend, Cmov, Bsr, JmpTo, Int80}
+use Rattle.ia_codec.specs.declared.op.Op.TheVariants.{AluTo, AluFrom, AluImm, TestReg, TestImm, Unary, Imul, MovTo, MovFrom, MovImm, MovToImm, MovHalfTo, MovByteTo, MovByteFrom, Shift, ShiftByCl, Lea, Extend, Bswap, Set, Cmov, Bsr, Cdq, Jcc, Jmp, JmpTo, Int80, Int3, Ud2}
 use Rattle.reg_map.specs.Registers.{eax, ecx, edx}
 use Rattle.machines.specs.Memory.{each_byte, Rights, rights_of, Code, is_code, code_of}
 use Rattle.machines.specs.Readings.{ReadsWords, Fetched, ReadsOps}
@@ -35,8 +35,20 @@ module _ (code : Code) where
   reads_apart (Bsr to from) core = is_apart (place_of 4 from core.regs)
   reads_apart (JmpTo to) core = is_apart (place_of 4 to core.regs)
   reads_apart Int80 core = cond (eqb (core.regs eax) 4) (is_apart (Memory (core.regs edx) (core.regs ecx))) true
-  -- the others read no memory: moves to memory, lea, setcc, jumps by an offset, and what works on registers alone
-  reads_apart _ core = true
+  -- these read no memory: moves to memory, lea, setcc, jumps by an offset, and what works on registers alone
+  reads_apart (MovTo to from) core = true
+  reads_apart (MovImm to imm) core = true
+  reads_apart (MovToImm to imm) core = true
+  reads_apart (MovHalfTo to from) core = true
+  reads_apart (MovByteTo to from) core = true
+  reads_apart (Lea to from) core = true
+  reads_apart (Bswap reg) core = true
+  reads_apart (Set condition to) core = true
+  reads_apart Cdq core = true
+  reads_apart (Jcc condition rel) core = true
+  reads_apart (Jmp rel) core = true
+  reads_apart Int3 core = true
+  reads_apart Ud2 core = true
 
   abbrev pub fetched_apart : Option Fetched → Core → Bool
   fetched_apart None core = true
@@ -61,6 +73,11 @@ without code rights = record { held = λ a. rights.held a && not (is_code code a
 -- the host of a program with these rights
 abbrev pub narrow_machine : (List ℕ → Option Fetched) → Program → Host → Outcome Host
 narrow_machine ops p = host_step (without (code_of p) (rights_of p)) (code_of p) ops
+
+-- a clean step is the same where no byte of the code can be read as data
+abbrev pub CleanReadsNoCode : Type 0
+CleanReadsNoCode =
+    (ops : List ℕ → Option Fetched) (Q : Program) (h : Host) → IsClean (code_of Q) ops h → narrow_machine ops Q h ≡ host_machine ops Q h
 
 -- Q agrees with P also where no byte of its code can be read as data. That its steps are clean needs no word here.
 abbrev pub AgreesNarrowly : Program → Program → Type 0

@@ -203,7 +203,7 @@ results carries records x v e locs = puts_xer carries e (puts_cr records e (upda
 abbrev pub put_special : ℕ → Effect → (ℕ → ℕ) → ℕ → ℕ
 put_special spr e locs = cond (eqb spr 1) (put_xer e.xer locs) (cond (eqb spr 8) (update locs lr e.lr) (update locs ctr e.ctr))
 
--- lmw: the registers from d on get the words from an address on, and stmw puts them there (Book I, 3.3.5)
+-- lmw: the registers from d on get the words from an address on, and stmw puts them there (Book I, 3.3.6)
 abbrev pub put_loaded : ℕ → ℕ → (ℕ → ℕ) → (ℕ → ℕ) → ℕ → ℕ
 put_loaded d address bytes locs x = cond (leb d x && ltb x 32) (load_big 4 (address + 4 * (x - d)) bytes) (locs x)
 

@@ -260,7 +260,7 @@ module _ (rights : Rights) where
   executes None h = Ends Illegal
   executes (Some f) h = acts f.op ((h.eip + f.len) % 2 ^ 32) h
 
--- the bytes from an address on to the end of the code, at most as many as the longest spelling has
+-- the bytes from an address on to the end of the code, at most 12: the longest spelling has 11
 abbrev pub op_bytes : Code → ℕ → List ℕ
 op_bytes code a = take 12 (drop (a - code.at) code.bytes)
 

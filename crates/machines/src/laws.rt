@@ -2,7 +2,7 @@
 
 ghost use Rattle.machines.specs.Laws.{GuestStaysOver, HostStaysOver, GuestKeepsCalls, HostKeepsCalls, HasWordReading, HasOpReading, HaveOneWordReading, HaveOneOpReading, UsesFirstChoices, HomesAreApart};
 ghost use Rattle.space.specs.declared.program.Program.{Program};
-ghost use Rattle.machines.specs.Agreement.{AgreesWith, AgreesNarrowly};
+ghost use Rattle.machines.specs.Agreement.{AgreesWith, AgreesNarrowly, CleanReadsNoCode};
 ghost use Rattle.machines.specs.Files.{Agrees};
 ghost use Rattle.elf_load.specs.Faults.{IsProgramOf};
 ghost use Rattle.space.specs.declared.program.Kind.TheVariants.{Ia32};
@@ -77,6 +77,11 @@ pub fn agrees_if_narrowly()
 {
     agrees_in_larger::<Brand, Brand>();
 }
+
+/// Where a step is clean, the host makes it also without the right to read its code.
+pub fn clean_reads_no_code()
+    ensures { CleanReadsNoCode }
+{}
 
 /// Every home lies in the home page, and no two share a byte.
 pub fn homes_are_apart()

@@ -10,6 +10,7 @@ pub use examples::{
     records_and_carries, unknown_call_is_an_error, writes_from_the_stack,
 };
 pub use laws::{
-    agrees_if_narrowly, codes_are_unique, guest_keeps_calls, guest_stays_over, homes_are_apart,
-    host_keeps_calls, host_stays_over, host_uses_first_choices, readings_are_one, readings_exist,
+    agrees_if_narrowly, clean_reads_no_code, codes_are_unique, guest_keeps_calls, guest_stays_over,
+    homes_are_apart, host_keeps_calls, host_stays_over, host_uses_first_choices, readings_are_one,
+    readings_exist,
 };

@@ -1,5 +1,8 @@
 //! The registers of the profile, by their numbers in opcodes and ModRM bytes (Intel SDM volume 2, table 2-2).
 
+ghost use Rattle.std.specs.Prelude.{◌≡◌};
+ghost use Rattle.reg_map.specs.Registers.{eax, ecx, edx, ebx, esi, edi};
+
 /// The first of the temporaries, which no register map uses.
 pub const EAX: u8 = 0;
 /// A temporary; its low byte is the count of the shifts by cl.
@@ -12,3 +15,13 @@ pub const EBX: u8 = 3;
 pub const ESI: u8 = 6;
 /// The third cache register.
 pub const EDI: u8 = 7;
+
+/// The constants are the numbers of the definitions.
+pub fn registers_have_their_numbers()
+    ensures eax { EAX ≡ eax }
+    ensures ecx { ECX ≡ ecx }
+    ensures edx { EDX ≡ edx }
+    ensures ebx { EBX ≡ ebx }
+    ensures esi { ESI ≡ esi }
+    ensures edi { EDI ≡ edi }
+{}

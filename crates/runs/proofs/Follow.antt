@@ -3,7 +3,6 @@ use Rattle.std.proofs.Common.{◌≡◌, ◌≢◌, ℕ, zero, suc, ◌+◌, ◌
 use Rattle.std.proofs.lemmas.Bool.{cases_lt}
 use Rattle.space.specs.declared.call.End.TheVariants.{Running, Outside, Dry}
 use Rattle.space.specs.Reports.{AnswerValue, ended, listed, going_on}
-use Rattle.runs.specs.declared.TheConstants.{BLOCK_WORDS, WORD_OPS}
 use Rattle.runs.specs.Machine.{Outcome, run, After, Along, Anywhere}
 use Rattle.runs.specs.Simulation as kinds
 use Rattle.runs.specs.Simulation.{Walks, onward, called, over, lost}
@@ -28,13 +27,13 @@ module _ {G H : Type 0} (guest : G → Outcome G) (host : H → Outcome H) (IsCl
   -- the agreement, with the shares of both bounds that p and q have taken
   record Follows (p q n : ℕ) (answers : List AnswerValue) (g : G) (h : H) : Type 0 where
     pub m : ℕ
-    pub fast : m + q ≤ WORD_OPS * n + WORD_OPS
+    pub fast : m + q ≤ 256 * n + 256
     pub clean : Along IsClean host m answers h
-    pub inside : (run guest n answers g).ending ≢ Outside → (n + p ≤ BLOCK_WORDS * m + BLOCK_WORDS) × (run host m answers h ≡ run guest n answers g)
+    pub inside : (run guest n answers g).ending ≢ Outside → (n + p ≤ 64 * m + 64) × (run host m answers h ≡ run guest n answers g)
     pub outside : (run guest n answers g).ending ≡ Outside → run host m answers h ≡ going_on (run guest n answers g)
 
   -- the host stands still while the guest goes on and calls nothing
-  waits : (p q n : ℕ) (answers : List AnswerValue) (g : G) (h : H) → q ≤ WORD_OPS → n + p ≤ BLOCK_WORDS → run guest n answers g ≡ ended Running → Follows p q n answers g h
+  waits : (p q n : ℕ) (answers : List AnswerValue) (g : G) (h : H) → q ≤ 256 → n + p ≤ 64 → run guest n answers g ≡ ended Running → Follows p q n answers g h
   waits p q n answers g h le_q le e = record {
     m = 0;
     fast = omega arith;
@@ -43,7 +42,7 @@ module _ {G H : Type 0} (guest : G → Outcome G) (host : H → Outcome H) (IsCl
     outside = λ _. sym (ap going_on e);
   }
 
-  onward_follows : (p q n : ℕ) (answers : List AnswerValue) (g : G) (h : H) → q ≤ WORD_OPS → (o : Onward p q g h) → ((n' : ℕ) → n ≡ o.k + n' → Follows o.p' o.q' n' answers o.g' o.h') → Follows p q n answers g h
+  onward_follows : (p q n : ℕ) (answers : List AnswerValue) (g : G) (h : H) → q ≤ 256 → (o : Onward p q g h) → ((n' : ℕ) → n ≡ o.k + n' → Follows o.p' o.q' n' answers o.g' o.h') → Follows p q n answers g h
   onward_follows p q n answers g h le_q o rest = ⊎_elim short long (cases_lt n o.k)
     where
       short : n < o.k → Follows p q n answers g h
@@ -64,7 +63,7 @@ module _ {G H : Type 0} (guest : G → Outcome G) (host : H → Outcome H) (IsCl
             outside = λ x. host_run ∙ r.outside (ap (λ x. x.ending) (sym guest_run) ∙ x) ∙ ap going_on (sym guest_run);
           }
 
-  over_follows : (p q n : ℕ) (answers : List AnswerValue) (g : G) (h : H) → p ≤ BLOCK_WORDS → Over q g h → Follows p q (suc n) answers g h
+  over_follows : (p q n : ℕ) (answers : List AnswerValue) (g : G) (h : H) → p ≤ 64 → Over q g h → Follows p q (suc n) answers g h
   over_follows p q n answers g h le_p o =
       let guest_run : run guest (suc n) answers g ≡ ended o.how = run_end guest n answers g o.how o.guest_ends in
       let host_run : run host (o.j + suc n) answers h ≡ ended o.how = run_walk IsClean host o.j (suc n) answers h o.h1 o.host_walks ∙ run_end host n answers o.h1 o.how o.host_ends in
@@ -76,7 +75,7 @@ module _ {G H : Type 0} (guest : G → Outcome G) (host : H → Outcome H) (IsCl
         outside = λ x. absurd (o.inside (ap (λ x. x.ending) (sym guest_run) ∙ x));
       }
 
-  lost_follows : (p q n : ℕ) (answers : List AnswerValue) (g : G) (h : H) → q ≤ WORD_OPS → Lost p g → Follows p q n answers g h
+  lost_follows : (p q n : ℕ) (answers : List AnswerValue) (g : G) (h : H) → q ≤ 256 → Lost p g → Follows p q n answers g h
   lost_follows p q n answers g h le_q o = ⊎_elim gone still (cases_lt o.k n)
     where
       still : n ≤ o.k → Follows p q n answers g h
@@ -95,7 +94,7 @@ module _ {G H : Type 0} (guest : G → Outcome G) (host : H → Outcome H) (IsCl
             outside = λ _. sym (ap going_on guest_run);
           }
 
-  called_follows : (p q n : ℕ) (answers : List AnswerValue) (g : G) (h : H) → p ≤ BLOCK_WORDS → (o : Called p q g h) → ((a : AnswerValue) (later : List AnswerValue) → Follows (o.answered a).p' (o.answered a).q' n later (o.guest_next a) (o.answered a).h') → Follows p q (suc n) answers g h
+  called_follows : (p q n : ℕ) (answers : List AnswerValue) (g : G) (h : H) → p ≤ 64 → (o : Called p q g h) → ((a : AnswerValue) (later : List AnswerValue) → Follows (o.answered a).p' (o.answered a).q' n later (o.guest_next a) (o.answered a).h') → Follows p q (suc n) answers g h
   called_follows p q n [] g h le_p o rest =
       let guest_run : run guest (suc n) [] g ≡ listed o.call (ended Dry) = run_dry guest n g o.call o.guest_next o.guest_asks in
       let host_run : run host (o.j + suc n) [] h ≡ listed o.call (ended Dry) = run_walk IsClean host o.j (suc n) [] h o.h1 o.host_walks ∙ run_dry host n o.h1 o.call o.host_next o.host_asks in
@@ -124,9 +123,9 @@ module _ {G H : Type 0} (guest : G → Outcome G) (host : H → Outcome H) (IsCl
   module _ (bounded : kinds.IsBounded guest host IsClean Meets) (advance : kinds.Advances guest host IsClean Meets) where
     -- what follows where the host ops that may still pass are bounded by this fuel: each advance spends some of it
     abbrev Below : ℕ → Type 0
-    Below fuel = (p q n : ℕ) (answers : List AnswerValue) (g : G) (h : H) → WORD_OPS * n + WORD_OPS ≤ fuel + q → Meets p q g h → Follows p q n answers g h
+    Below fuel = (p q n : ℕ) (answers : List AnswerValue) (g : G) (h : H) → 256 * n + 256 ≤ fuel + q → Meets p q g h → Follows p q n answers g h
 
-    one_advance : (fuel p q n : ℕ) (answers : List AnswerValue) (g : G) (h : H) → Below fuel → p ≤ BLOCK_WORDS → q ≤ WORD_OPS → WORD_OPS * suc n + WORD_OPS ≤ suc fuel + q → Advance p q g h → Follows p q (suc n) answers g h
+    one_advance : (fuel p q n : ℕ) (answers : List AnswerValue) (g : G) (h : H) → Below fuel → p ≤ 64 → q ≤ 256 → 256 * suc n + 256 ≤ suc fuel + q → Advance p q g h → Follows p q (suc n) answers g h
     one_advance fuel p q n answers g h below le_p le_q le (onward o) =
         onward_follows p q (suc n) answers g h le_q o (λ n' e. below o.p' o.q' n' answers o.g' o.h' (omega (arith, o.fast)) o.meets)
     one_advance fuel p q n answers g h below le_p le_q le (called o) =
@@ -143,7 +142,7 @@ module _ {G H : Type 0} (guest : G → Outcome G) (host : H → Outcome H) (IsCl
     -- from states that meet the host agrees with the guest
     pub agrees : kinds.Agreement guest host IsClean Meets
     agrees p q g h meets answers n =
-        let r = follow_by (WORD_OPS * n + WORD_OPS) p q n answers g h (omega arith) meets in
+        let r = follow_by (256 * n + 256) p q n answers g h (omega arith) meets in
         record {
           m = r.m;
           soon = omega (arith, r.fast);

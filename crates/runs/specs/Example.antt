@@ -1,12 +1,13 @@
 -- The two machines of the translator in small. This project's own.
-use Rattle.std.specs.Prelude.{ℕ, ◌+◌, ◌%◌, ◌^◌, List, [], ◌∷◌}
+use Rattle.std.specs.Prelude.{ℕ, ◌+◌, ◌%◌, ◌^◌, ◌<◌, List, [], ◌∷◌, ◌++◌, replicate}
 use Rattle.space.specs.declared.call.End.TheVariants.{Exit as ExitWith, Outside}
 use Rattle.space.specs.Reports.{Write as WriteCall, Given, Gives, Fails, given}
 use Rattle.runs.specs.declared.example.Word.{Word}
 use Rattle.runs.specs.declared.example.Word.TheVariants as word
 use Rattle.runs.specs.declared.example.Op.{Op}
 use Rattle.runs.specs.declared.example.Op.TheVariants as op
-use Rattle.runs.specs.Machine.{Outcome, Goes, Asks, Ends}
+use Rattle.runs.specs.Machine.{Outcome, Goes, Asks, Ends, AgreesFrom}
+use Rattle.runs.specs.Laws.{StaysIn}
 
 -- the guest: its register, and the words still to come
 pub record Guest : Type 0 where
@@ -67,3 +68,15 @@ guest_start words = record { register = 0; words = words }
 
 abbrev pub host_start : List Op → Host
 host_start ops = record { register = 0; buffer = 0; ops = ops }
+
+-- the host of these ops agrees with the guest of these words, and reads none of its code
+abbrev pub ExampleAgrees : List Word → List Op → Type 0
+ExampleAgrees words ops = AgreesFrom guest_step host_step (StaysIn guarded_step host_step) (guest_start words) (host_start ops)
+
+-- What doesn't agree. The first makes another call and ends in the same way; the second reads its own code; the third has
+-- an end before it, which no step comes to; the fourth exits as the guest does, but behind too many ops.
+pub record WrongOpsDisagree : Type 0 where
+  pub other_byte : ¬ (ExampleAgrees (word.Write 1 ∷ word.Spin ∷ []) (op.Store 2 ∷ op.Call ∷ op.Hold ∷ []))
+  pub reads_code : ¬ (ExampleAgrees (word.Sync ∷ word.Exit ∷ []) (op.Peek ∷ op.Exit ∷ []))
+  pub stands_still : ¬ (ExampleAgrees (word.Spin ∷ []) [])
+  pub too_slow : (k : ℕ) → 512 < k → ¬ (ExampleAgrees (word.Exit ∷ []) (replicate k op.Pass ++ op.Exit ∷ []))

@@ -3,7 +3,6 @@ use Rattle.std.specs.Prelude.{◌≡◌, ◌≢◌, ℕ, zero, suc, ◌+◌, ◌
 use Rattle.space.specs.declared.call.End.{End}
 use Rattle.space.specs.declared.call.End.TheVariants.{Running, Outside, Dry}
 use Rattle.space.specs.Reports.{ListedCall, AnswerValue, Report, ended, listed, going_on}
-use Rattle.runs.specs.declared.TheConstants.{BLOCK_WORDS, WORD_OPS}
 
 -- what one step does: the machine goes on, or asks for the answer to a call, or ends
 pub data Outcome (S : Type 0) : Type 0 where
@@ -44,13 +43,13 @@ Anywhere s = Unit {0}
 -- The guest's report after n steps, and the host's after m. Where the guest has not gone outside, the reports are the
 -- same, and the host has made enough steps for n. Where it has, the host has made the same calls and goes on.
 pub record AgreesAt (n m : ℕ) (guest_report host_report : Report) : Type 0 where
-  pub inside : guest_report.ending ≢ Outside → (n ≤ BLOCK_WORDS * (m + 1)) × (host_report ≡ guest_report)
+  pub inside : guest_report.ending ≢ Outside → (n ≤ 64 * (m + 1)) × (host_report ≡ guest_report)
   pub outside : guest_report.ending ≡ Outside → host_report ≡ going_on guest_report
 
 -- for n steps of the guest there are m of the host, all clean and not too many, at which it agrees
 pub record HasAgreeingRun {G H : Type 0} (guest : G → Outcome G) (host : H → Outcome H) (IsClean : H → Type 0) (n : ℕ) (answers : List AnswerValue) (g : G) (h : H) : Type 0 where
   pub m : ℕ
-  pub soon : m ≤ WORD_OPS * (n + 1)
+  pub soon : m ≤ 256 * (n + 1)
   pub clean : Along IsClean host m answers h
   pub agrees : AgreesAt n m (run guest n answers g) (run host m answers h)
 

@@ -21,7 +21,6 @@ use Rattle.space.specs.declared.call.End.{End}
 use Rattle.space.specs.declared.call.End.TheVariants.{Exit, Outside}
 use Rattle.space.specs.Reports.{ListedCall, AnswerValue}
 use Rattle.runs.specs.Machine.{Outcome, Goes, Asks, Ends, Anywhere, AgreesFrom}
-use Rattle.runs.specs.declared.TheConstants.{BLOCK_WORDS, WORD_OPS}
 
 -- the machine makes j steps from s that end nothing and ask for nothing, each from a state of P, and comes to t
 pub data Walks {S : Type 0} (P : S → Type 0) (step : S → Outcome S) : ℕ → S → S → Type 0 where
@@ -40,9 +39,9 @@ module _ {G H : Type 0} (guest : G → Outcome G) (host : H → Outcome H) (IsCl
     pub guest_walks : Walks Anywhere guest k g g'
     pub host_walks : Walks IsClean host j h h'
     pub meets : Meets p' q' g' h'
-    pub in_block : p + k ≤ BLOCK_WORDS
-    pub slow : p + k ≤ BLOCK_WORDS * j + p'
-    pub fast : q + j < WORD_OPS * k + q'
+    pub in_block : p + k ≤ 64
+    pub slow : p + k ≤ 64 * j + p'
+    pub fast : q + j < 256 * k + q'
 
   -- behind the answer to a call that the host made after j steps, it makes i more to a state that meets again
   pub record Answered (p q j : ℕ) (g : G) (h : H) : Type 0 where
@@ -52,8 +51,8 @@ module _ {G H : Type 0} (guest : G → Outcome G) (host : H → Outcome H) (IsCl
     pub h' : H
     pub host_walks : Walks IsClean host i h h'
     pub meets : Meets p' q' g h'
-    pub slow : p + 1 ≤ BLOCK_WORDS * (j + 1 + i) + p'
-    pub fast : q + (j + 1 + i) < WORD_OPS + q'
+    pub slow : p + 1 ≤ 64 * (j + 1 + i) + p'
+    pub fast : q + (j + 1 + i) < 256 + q'
 
   -- the guest calls, the host makes the same call after j steps, and under each answer they meet again
   pub record Called (p q : ℕ) (g : G) (h : H) : Type 0 where
@@ -66,7 +65,7 @@ module _ {G H : Type 0} (guest : G → Outcome G) (host : H → Outcome H) (IsCl
     pub host_walks : Walks IsClean host j h h1
     pub host_asks : host h1 ≡ Asks call host_next
     pub clean : IsClean h1
-    pub soon : q + j < WORD_OPS
+    pub soon : q + j < 256
     pub answered : (a : AnswerValue) → Answered p q j (guest_next a) (host_next a)
 
   -- the guest ends, and the host ends in the same way after j steps
@@ -79,7 +78,7 @@ module _ {G H : Type 0} (guest : G → Outcome G) (host : H → Outcome H) (IsCl
     pub host_walks : Walks IsClean host j h h1
     pub host_ends : host h1 ≡ Ends how
     pub clean : IsClean h1
-    pub soon : q + j < WORD_OPS
+    pub soon : q + j < 256
 
   -- the guest makes k steps, and the next one goes outside: nothing is asked of the host
   pub record Lost (p : ℕ) (g : G) : Type 0 where
@@ -87,7 +86,7 @@ module _ {G H : Type 0} (guest : G → Outcome G) (host : H → Outcome H) (IsCl
     pub g' : G
     pub guest_walks : Walks Anywhere guest k g g'
     pub goes_outside : guest g' ≡ Ends Outside
-    pub in_block : p + k ≤ BLOCK_WORDS
+    pub in_block : p + k ≤ 64
 
   -- what may come next from states that meet
   pub data Advance (p q : ℕ) (g : G) (h : H) : Type 0 where
@@ -97,7 +96,7 @@ module _ {G H : Type 0} (guest : G → Outcome G) (host : H → Outcome H) (IsCl
     lost : Lost p g → Advance p q g h
 
   abbrev pub IsBounded : Type 0
-  IsBounded = (p q : ℕ) (g : G) (h : H) → Meets p q g h → (p ≤ BLOCK_WORDS) × (q ≤ WORD_OPS)
+  IsBounded = (p q : ℕ) (g : G) (h : H) → Meets p q g h → (p ≤ 64) × (q ≤ 256)
 
   abbrev pub Advances : Type 0
   Advances = (p q : ℕ) (g : G) (h : H) → Meets p q g h → Advance p q g h

@@ -3,7 +3,7 @@
 ghost use Rattle.std.specs.Prelude.{IfOk};
 ghost use Rattle.runs.specs.Machine.{AgreesFrom};
 ghost use Rattle.runs.specs.Laws.{StaysIn};
-ghost use Rattle.runs.specs.Example.{guest_step, host_step, guarded_step, guest_start, host_start};
+ghost use Rattle.runs.specs.Example.{guest_step, host_step, guarded_step, guest_start, host_start, WrongOpsDisagree};
 
 use crate::{agreement, agrees_in_larger};
 use std::alloc::{AllocError, Global};
@@ -76,3 +76,9 @@ pub fn translate(alloc: Global, words: &[Word]) -> Result<Vec<Op>, AllocError>
     }
     Ok(ops)
 }
+
+/// What agreement refuses, though each comes near to it: another byte is written, the code is read, no
+/// step is made, or too many.
+pub fn wrong_ops_disagree()
+    ensures { WrongOpsDisagree }
+{}

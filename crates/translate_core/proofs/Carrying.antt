@@ -3,7 +3,7 @@ use Rattle.std.proofs.Common.{◌≡◌, ℕ, ◌+◌, ◌*◌, ◌<◌, ◌≤�
 use Rattle.space.specs.declared.program.Kind.TheVariants.{Ia32}
 use Rattle.space.specs.declared.program.Program.{Program}
 use Rattle.branch_table.specs.declared.code.Code.{Code}
-use Rattle.elf_load.specs.Area.{IsArea}
+use Rattle.elf_load.specs.Area.{IsHostArea}
 use Rattle.elf_load.specs.Faults.{IsProgramOf}
 use Rattle.elf_emit.specs.File.{elf_file}
 use Rattle.elf_emit.specs.Translation.{FitsArea, file_segments, translated}
@@ -34,7 +34,7 @@ fits_area first entry words words' area code same some most laid count fits =
 
 pub carries : (P : Program) (area first entry : ℕ) (code : Code) (words words' bytes file : List ℕ) → first ≡ first_of P → words' ≡ words → HasWords P (first_of P) words → IsAllBuilt P →
     P.entry ≡ first_of P + 4 * entry → entry < length words → IsCodeFor first entry words' area code.entries code.bytes → length code.entries ≡ length words' →
-    code.start ≡ slice_index code.entries entry → FitsArea code → IsArea P.segments area → bytes ≡ elf_file code.start (file_segments P code area) → IsProgramOf Ia32 bytes (translated P code area) → file ≡ bytes → Carries P file
+    code.start ≡ slice_index code.entries entry → FitsArea code → IsHostArea P.segments area → bytes ≡ elf_file code.start (file_segments P code area) → IsProgramOf Ia32 bytes (translated P code area) → file ≡ bytes → Carries P file
 carries P area first entry code words words' bytes file here same has built begins within laid count start fits free whole loaded made = record {
   area = area;
   code = code;

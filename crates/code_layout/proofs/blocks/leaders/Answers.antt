@@ -1,6 +1,6 @@
 use Rattle.std.proofs.Common.{rules, ◌≡◌, ◌<◌, ◌+◌, ◌↔◌, ℕ, Bool, true, Some, List, drop, length, refl, sym, subst, ◌∙◌, arith}
 use Rattle.std.proofs.lemmas.Bool.{false≢true}
-use Rattle.code_layout.specs.Code.{is_flow}
+use Rattle.row_laws.specs.FlowWords.{is_flow}
 use Rattle.code_layout.specs.Blocks.{address_of, IsSet, IsCut}
 use Rattle.code_layout.specs.Leaders.{named_address, IsLeader}
 use Rattle.code_layout.proofs.Bases.{bases_more, adds_none, adds_one, one_place, leaders_cut, take_front}

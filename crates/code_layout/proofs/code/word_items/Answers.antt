@@ -11,4 +11,4 @@ pub returns-clause-items : goal.returns-clause-items
 returns-clause-items c = items-of-word c.args.word c.args.at c.args.ends c.instruction.result c.items_of.result c.instruction.ensures.spelled c.items_of.ensures.items
 
 pub returns-clause-short : goal.returns-clause-short
-returns-clause-short c = items-short c.instruction.result c.args.at c.args.ends c.items_of.result c.instruction.ensures.built c.items_of.ensures.items
+returns-clause-short c = items-short c.instruction.result c.args.at c.args.ends c.items_of.result c.instruction.ensures.built c.instruction.ensures.spelled.legal c.items_of.ensures.items

@@ -1,5 +1,6 @@
 use Rattle.std.proofs.Common.{rules, ◌+◌, ◌∙◌, arith, false, get_or, ap}
 use Rattle.std.proofs.lemmas.Grind.{common_steps}
+use Rattle.code_layout.specs.Places.{no_moves}
 use Rattle.code_layout.specs.Code.{items_length}
 use Rattle.code_layout.specs.declared.blocks.Laid.{Laid}
 use Rattle.code_layout.proofs.Laid.{items-at}
@@ -14,7 +15,7 @@ loop-laid-preserved c =
     record {
       count = search rules;
       sought = λ k lt. sought-more c.args.source.now.first c.args.source.now.words.now (c.args.code + 5) c.loop-laid.at (c.loop-laid.at + c.length.result) c.loop-laid.laid-index c.args.order.now d c.in_ok-word_items.field-0.items c.loop-laid.entries.items c.if-laid.entries.items k c.loop-laid-test.true h
-          (ap (λ n. c.loop-laid.at + n) (c.length.ensures.value ∙ ap items_length c.deref.ensures.value))
+          (ap (λ n. c.loop-laid.at + n) (c.length.ensures.value ∙ ap (items_length no_moves) c.deref.ensures.value))
           (elim c.if-laid.branch [
             | then-laid w ↦ keeps-set _ c.loop-laid.at c.loop-laid.entries.items c.if-laid.entries.items k w.if-laid.true (search rules) (search rules)
             | else-laid w ↦ keeps-all _ c.loop-laid.at c.loop-laid.entries.items c.if-laid.entries.items k w.if-laid.false (search rules)

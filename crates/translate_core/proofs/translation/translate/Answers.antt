@@ -10,7 +10,7 @@ returns-clause-carries c =
     c.first.ensures c.deref.ensures.value c.in_ok-words.ensures.words c.requires.built c.entry_place.ensures.address (c.entry_place.ensures.within c.in_ok-words.words.items c.in_ok-words.ensures.words)
     c.in_ok-code.ensures.code c.in_ok-code.ensures.count c.in_ok-code.ensures.start
     (fits_area c.first.result c.entry_place.result c.in_ok-words.words.items c.deref.result.now c.host_area-area.result c.in_ok-code.code c.deref.ensures.value c.in_ok-words.ensures.some c.in_ok-words.ensures.most c.in_ok-code.ensures.code c.in_ok-code.ensures.count c.in_ok-code.ensures.fits)
-    c.host_area-area.ensures.area c.in_ok-bytes.ensures.bytes c.in_ok-bytes.ensures.loads c.file_bytes.ensures.value
+    c.host_area-area.ensures c.in_ok-bytes.ensures.bytes c.in_ok-bytes.ensures.loads c.file_bytes.ensures.value
 
 pub returns-clause-agrees : goal.returns-clause-agrees
 returns-clause-agrees c = c.carrying_agrees.ensures c.args.program.now c.file_bytes.result c.file_bytes.ensures.bytes (returns-clause-carries c)

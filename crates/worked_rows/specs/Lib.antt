@@ -1,0 +1,3 @@
+pub mod GuestRows
+pub mod HostRows
+pub mod HostCalls
