@@ -1,4 +1,3 @@
-pub mod FlowWords
 pub mod Branches
 pub mod Blocks
 pub mod Marks

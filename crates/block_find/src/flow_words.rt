@@ -1,6 +1,6 @@
 //! The words with which a block ends.
 ghost use Rattle.std.specs.Prelude.{◌≡◌, ◌↔◌, IsTrue};
-ghost use Rattle.block_find.specs.FlowWords.{is_flow as is_flow_of};
+ghost use Rattle.row_laws.specs.FlowWords.{is_flow as is_flow_of};
 ghost use Rattle.block_find.specs.Branches.{IsFlowWord};
 
 use ppc_isa::{Instr, decode};

@@ -5,7 +5,7 @@ use Rattle.ppc_isa.specs.declared.instr.Instr.{Instr}
 use Rattle.ppc_isa.specs.declared.instr.Instr.TheVariants.{Branch, BranchConditional, BranchRegister, SystemCall}
 use Rattle.ppc_isa.specs.Legal.{IsWordOf, HasOneInstruction}
 use Rattle.ppc_isa.specs.Locations.{locations_read, locations_written}
-use Rattle.block_find.specs.FlowWords.{is_flow}
+use Rattle.row_laws.specs.FlowWords.{is_flow}
 use Rattle.block_find.specs.Branches.{address_of, named_address}
 use Rattle.liveness.specs.Live.{CountsAsRead, named, anywhere, behind_call, leads_anywhere, is_call, falls_through, IsRead, IsWritten, Leads, IsPath, IsLive}
 use Rattle.liveness.specs.Laws.{IsLiveHere}

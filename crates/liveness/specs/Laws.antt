@@ -3,7 +3,7 @@ use Rattle.std.specs.Prelude.{◌≡◌, ℕ, ◌+◌, ◌<◌, ◌⊎◌, ◌�
 use Rattle.ppc_isa.specs.declared.instr.Instr.{Instr}
 use Rattle.ppc_isa.specs.Legal.{IsWordOf}
 use Rattle.ppc_isa.specs.Locations.{locations_read, locations_written}
-use Rattle.block_find.specs.FlowWords.{is_flow}
+use Rattle.row_laws.specs.FlowWords.{is_flow}
 use Rattle.liveness.specs.Live.{IsRead, IsWritten, Leads, IsLive}
 
 -- the word reads the location, or doesn't write it and leads to a word before which it is live
