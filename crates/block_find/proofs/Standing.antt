@@ -9,7 +9,7 @@ use Rattle.block_find.specs.Blocks.{most, IsIn, flow, named, AreBlocksOf, past, 
 use Rattle.block_find.specs.Laws.{block_at, all_blocks, IsBlockAt, BeginsOne, BeginsLeader, EachIsBlock, EachBeginsOne, LeadsToLeaders}
 use Rattle.block_find.specs.declared.block.Block.{Block}
 use Rattle.block_find.specs.declared.block.Blocks.{Blocks}
-use Rattle.block_find.specs.declared.runs.Run.{Run}
+use Rattle.block_find.specs.declared.spans.Run.{Run}
 use Rattle.block_find.proofs.SingleRuns.{run_at, AreSingles, are_singles}
 
 -- a run as a block

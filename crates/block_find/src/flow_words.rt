@@ -6,7 +6,7 @@ ghost use Rattle.block_find.specs.Branches.{IsFlowWord};
 use ppc_isa::{Instr, decode};
 
 /// Whether the instruction is a flow word: a branch, sc or a trap.
-pub fn is_flow(instr: &Instr) -> bool
+fn is_flow(instr: &Instr) -> bool
     ensures { result ≡ is_flow_of instr.now }
 {
     matches!(
