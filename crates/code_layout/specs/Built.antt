@@ -9,7 +9,6 @@ use Rattle.base_flow.specs.Tile.{IsBuilt as IsBuiltFlow}
 abbrev pub IsBuilt : Instr → Type 0
 IsBuilt i = IsBuiltStraight i ⊎ IsBuiltFlow i
 
-pub record IsBuiltWord (word : ℕ) : Type 0 where
-  pub instr : Instr
-  pub spelled : IsWordOf word instr
-  pub built : IsBuilt instr
+-- the word's instruction is one of them, if it is a legal word
+abbrev pub IsBuiltWord : ℕ → Type 0
+IsBuiltWord word = (i : Instr) → IsWordOf word i → IsBuilt i

@@ -12,7 +12,8 @@ pub use Rattle.reg_map.specs.Relocated.{operand_at, op_at, IsPlaceable}
 use Rattle.code_layout.specs.Leap.{leap_ops}
 use Rattle.code_layout.specs.Places.{no_registers, Moves, Places}
 use Rattle.base_alu.specs.Tile.{tile as alu_tile}
-use Rattle.base_flow.specs.Tile.{tile as flow_tile}
+use Rattle.base_flow.specs.Tile.{tile as flow_tile, illegal_items}
+use Rattle.symbolic_tiles.specs.TileItems.{flows_of}
 use Rattle.machines.specs.Guest.{behind as next_address}
 use Rattle.symbolic_tiles.specs.FlowWords.{is_flow}
 use Rattle.symbolic_tiles.specs.declared.flow_op.FlowOp.{FlowOp}
@@ -22,9 +23,10 @@ use Rattle.symbolic_tiles.specs.declared.flow_op.FlowOp.TheVariants.{Plain, Jump
 abbrev pub straight : Instr → ℕ → Bool → List FlowOp
 straight i at ends = map (λ op. Plain op) (alu_tile i no_registers) ++ (if ends then Edge (next_address at) ∷ [] else [])
 
--- the items of an instruction at an address, at the end of its block or before it
-abbrev pub items : Instr → ℕ → Bool → List FlowOp
-items i at ends = if is_flow i then flow_tile i at no_registers else straight i at ends
+-- the items of a word at an address, at the end of its block or before it
+abbrev pub items : Option Instr → ℕ → Bool → List FlowOp
+items (Some i) at ends = if is_flow i then flow_tile i at no_registers else straight i at ends
+items None at ends = flows_of illegal_items no_registers
 
 -- an item whose op is in the profile over each home page
 abbrev pub IsLaid : FlowOp → Type 0

@@ -1,10 +1,12 @@
 //! The instructions that translation is built for.
 
-ghost use Rattle.std.specs.Prelude.{◌≡◌, ◌<◌, ◌↔◌, ℕ, IsTrue, IfSome, IfNone, length, slice_index};
-ghost use Rattle.ppc_isa.specs.Legal.{IsWordOf};
+ghost use Rattle.std.specs.Prelude.{◌≡◌, ◌<◌, ◌↔◌, ℕ, IsTrue, IfOk, IfSome, IfNone, length, slice_index};
 ghost use Rattle.code_layout.specs.Built.{IsBuilt, IsBuiltWord};
+ghost use Rattle.code_layout.specs.Decoded.{AreDecodedAs};
 
 use ppc_isa::{Instr, decode};
+use std::alloc::Global;
+use word_kit::NoMemory;
 
 // Whether translation is built for the instruction.
 fn is_built(instr: &Instr) -> bool
@@ -13,13 +15,13 @@ fn is_built(instr: &Instr) -> bool
     base_alu::is_built(instr) || base_flow::is_built(instr)
 }
 
-// Whether the word is an instruction that translation is built for.
+// Whether translation is built for the word.
 fn is_built_word(word: u32) -> bool
     ensures { IsTrue result ↔ IsBuiltWord word }
 {
     match decode(word) {
         Some(instr) => is_built(&instr),
-        None => false,
+        None => true,
     }
 }
 
@@ -38,14 +40,16 @@ pub fn first_unbuilt(words: &[u32]) -> Option<usize>
     None
 }
 
-/// The instruction of a word that translation is built for.
-pub(crate) fn instruction(word: u32) -> Instr
-    requires { IsBuiltWord word }
-    ensures spelled { IsWordOf word result }
-    ensures built { IsBuilt result }
+/// The words, each decoded.
+///
+/// # Errors
+/// `NoMemory` where there is no memory for them.
+pub fn decoded(alloc: Global, words: &[u32]) -> Result<Vec<Option<Instr>>, NoMemory>
+    ensures { IfOk result (λ v. AreDecodedAs words.now v.items) }
 {
-    match decode(word) {
-        Some(instr) => instr,
-        None => unreachable!(),
+    let mut decoded = Vec::with_capacity(alloc, words.len())?;
+    for word in words {
+        decoded.push(decode(*word))?;
     }
+    Ok(decoded)
 }

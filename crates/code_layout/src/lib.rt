@@ -9,6 +9,6 @@ mod places;
 mod program_code;
 mod source;
 
-pub use built::first_unbuilt;
+pub use built::{decoded, first_unbuilt};
 pub use program_code::lay;
 pub use source::Source;
