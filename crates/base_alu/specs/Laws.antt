@@ -5,7 +5,7 @@ use Rattle.ppc_isa.specs.Map.{IsMap}
 use Rattle.ppc_isa.specs.declared.instr.Instr.{Instr}
 use Rattle.ppc_isa.specs.Legal.{IsLegal}
 use Rattle.reg_map.specs.Relocated.{IsPlaceable}
-use Rattle.symbolic_tiles.specs.FlowWords.{is_flow}
+use Rattle.row_laws.specs.FlowWords.{is_flow}
 use Rattle.symbolic_tiles.specs.Row.{DoesRow}
 use Rattle.symbolic_tiles.specs.Tiles.{IsTileOf, spelled_bytes}
 use Rattle.base_alu.specs.Tile.{IsBuilt, symbolic_tile, tile}

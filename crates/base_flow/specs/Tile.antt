@@ -9,7 +9,7 @@ use Rattle.symbolic_tiles.specs.declared.symbolic_op.SymbolicOp.TheVariants.{Mov
 use Rattle.symbolic_tiles.specs.declared.tile_item.TileItem.{TileItem}
 use Rattle.symbolic_tiles.specs.declared.tile_item.TileItem.TheVariants.{Do, BranchTo, BranchIndirect, Undefined}
 use Rattle.symbolic_tiles.specs.declared.flow_op.FlowOp.{FlowOp}
-use Rattle.symbolic_tiles.specs.FlowWords.{is_flow}
+use Rattle.row_laws.specs.FlowWords.{is_flow}
 use Rattle.symbolic_tiles.specs.TileItems.{flows_of, doing}
 use Rattle.base_flow.specs.Branches.{link_ops, branch_items, target_register}
 use Rattle.base_flow.specs.Traps.{trap_items, tw_ops, twi_ops}

@@ -2,7 +2,7 @@
 
 ghost use Rattle.std.specs.Prelude.{◌≡◌, ◌↔◌, true, IfOk, IsTrue};
 ghost use Rattle.ppc_isa.specs.Legal.{IsLegal};
-ghost use Rattle.symbolic_tiles.specs.FlowWords.{is_flow as is_flow_word};
+ghost use Rattle.row_laws.specs.FlowWords.{is_flow as is_flow_word};
 ghost use Rattle.base_flow.specs.Tile.{IsBuilt, items_of};
 
 use crate::branches::{branch, branch_conditional, branch_register};

@@ -3,7 +3,7 @@ use Rattle.std.proofs.Common.{◌≡◌, true, false, inl, inr, refl, sym, ◌�
 use Rattle.std.proofs.lemmas.Bool.{false≢true}
 use Rattle.ppc_isa.specs.declared.instr.Instr.{Instr}
 use Rattle.ppc_isa.specs.Map.{IsMap}
-use Rattle.symbolic_tiles.specs.FlowWords.{is_flow}
+use Rattle.row_laws.specs.FlowWords.{is_flow}
 use Rattle.base_alu.specs.Tile.{IsBuilt as IsBuiltStraight}
 use Rattle.base_alu.proofs.Straight.{built_are_straight}
 use Rattle.base_flow.specs.Tile.{IsBuilt as IsBuiltFlow, HasTile}

@@ -9,7 +9,7 @@ use Rattle.ia_codec.specs.declared.op.Op.TheVariants.{Ud2}
 use Rattle.machines.specs.Guest.{behind as next_address}
 use Rattle.symbolic_tiles.specs.declared.flow_op.FlowOp.{FlowOp}
 use Rattle.symbolic_tiles.specs.declared.flow_op.FlowOp.TheVariants.{Plain, Jump, Mark, Edge, Leap}
-use Rattle.symbolic_tiles.specs.FlowWords.{is_flow}
+use Rattle.row_laws.specs.FlowWords.{is_flow}
 use Rattle.symbolic_tiles.specs.Marks.{AreLaid}
 use Rattle.base_alu.specs.Tile.{tile as alu_tile}
 use Rattle.base_alu.proofs.Tiles.{tiles_are_placeable}

@@ -8,7 +8,7 @@ use Rattle.ia_codec.specs.Spelling.{spelling}
 use Rattle.machines.specs.Guest.{behind as next_address}
 use Rattle.symbolic_tiles.specs.declared.flow_op.FlowOp.{FlowOp}
 use Rattle.symbolic_tiles.specs.declared.flow_op.FlowOp.TheVariants.{Plain, Jump, Mark, Edge, Leap}
-use Rattle.symbolic_tiles.specs.FlowWords.{is_flow}
+use Rattle.row_laws.specs.FlowWords.{is_flow}
 use Rattle.symbolic_tiles.specs.Marks.{flow_room, flows_room}
 use Rattle.symbolic_tiles.specs.Tiles.{spelled_bytes}
 use Rattle.base_alu.specs.Tile.{tile as alu_tile}

@@ -15,7 +15,7 @@ use Rattle.base_alu.specs.Tile.{tile as alu_tile}
 use Rattle.base_flow.specs.Tile.{tile as flow_tile, illegal_items}
 use Rattle.symbolic_tiles.specs.TileItems.{flows_of}
 use Rattle.machines.specs.Guest.{behind as next_address}
-use Rattle.symbolic_tiles.specs.FlowWords.{is_flow}
+use Rattle.row_laws.specs.FlowWords.{is_flow}
 use Rattle.symbolic_tiles.specs.declared.flow_op.FlowOp.{FlowOp}
 use Rattle.symbolic_tiles.specs.declared.flow_op.FlowOp.TheVariants.{Plain, Jump, Mark, Edge, Leap}
 

@@ -6,7 +6,7 @@ use Rattle.ppc_isa.specs.declared.instr.Instr.TheVariants.{Branch, BranchConditi
 use Rattle.machines.specs.Guest.{branch_target}
 use Rattle.code_layout.specs.Blocks.{address_of, IsCut}
 use Rattle.code_layout.specs.Decoded.{decoded_at}
-use Rattle.symbolic_tiles.specs.FlowWords.{is_flow}
+use Rattle.row_laws.specs.FlowWords.{is_flow}
 
 -- a block ends behind a flow word and behind an illegal one
 abbrev pub ends_block : Option Instr → Bool

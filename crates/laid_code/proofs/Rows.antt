@@ -8,7 +8,7 @@ use Rattle.runs.specs.Machine.{Outcome, Goes, Asks, Ends}
 use Rattle.machines.specs.Memory.{Rights}
 use Rattle.machines.specs.Guest.{Guest, behind, acts, effect_of}
 use Rattle.base_alu.specs.Tile.{tile as alu_tile}
-use Rattle.symbolic_tiles.specs.FlowWords.{is_flow}
+use Rattle.row_laws.specs.FlowWords.{is_flow}
 use Rattle.base_flow.specs.Tile.{tile as flow_tile}
 use Rattle.symbolic_tiles.specs.Row.{window_of, DoWindow}
 use Rattle.symbolic_tiles.specs.Row.{WritesHeld}

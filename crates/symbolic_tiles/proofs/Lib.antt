@@ -18,3 +18,4 @@ pub mod Relates
 pub mod FlowDone
 pub mod Placeable
 pub mod Straight
+pub mod TileOf

@@ -2,7 +2,6 @@ pub mod Perform
 pub mod Relocated
 pub mod Row
 pub mod Flow
-pub mod FlowWords
 pub mod Straight
 pub mod Standing
 pub mod SymbolicOps

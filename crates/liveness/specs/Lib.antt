@@ -1,0 +1,4 @@
+pub mod Live
+pub mod Flows
+pub mod Namers
+pub mod Growth
