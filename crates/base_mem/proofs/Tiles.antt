@@ -1,4 +1,5 @@
 -- Each tile does its row.
+use Rattle.std.proofs.lemmas.Bool.{false≢true}
 use Rattle.std.proofs.Common.{arith}
 use Rattle.ppc_isa.specs.declared.instr.Instr.TheVariants as instr
 use Rattle.ppc_isa.specs.declared.instr.MultipleOp.TheVariants.{Lmw, Stmw}
@@ -20,7 +21,7 @@ tiles_are_tiles (instr.StoreIndexed op s a b) legal built = store_indexed_tile_d
 tiles_are_tiles (instr.StoreIndexedUpdate op s a b) legal built = store_indexed_update_tile_does op s a b legal
 tiles_are_tiles (instr.Multiple Lmw d a imm) legal built = lmw_does d a imm legal
 tiles_are_tiles (instr.Multiple Stmw s a imm) legal built = stmw_does s a imm legal
-tiles_are_tiles _ legal built = absurd built
+tiles_are_tiles _ legal built = absurd (false≢true built)
 
 pub tiles_do_rows : TilesDoRows
 tiles_do_rows i legal built = (tiles_are_tiles i legal built).does

@@ -1,6 +1,6 @@
 -- The tile of each instruction with an access (this project's own): ops that do to the places of its locations, under any
 -- register map, and to the guest's memory, what the instruction does to the locations and the memory.
-use Rattle.std.specs.Prelude.{◌-◌, true, false, eqb, List, [], ◌++◌}
+use Rattle.std.specs.Prelude.{Bool, ◌≡◌, ◌-◌, true, false, eqb, List, [], ◌++◌}
 use Rattle.ppc_isa.specs.declared.map.Map.{Map}
 use Rattle.ppc_isa.specs.declared.instr.Instr.{Instr}
 use Rattle.ppc_isa.specs.declared.instr.MultipleOp.TheVariants.{Lmw, Stmw}
@@ -13,18 +13,21 @@ use Rattle.base_mem.specs.Loads.{load_ops, load_update_ops, load_indexed_ops, lo
 use Rattle.base_mem.specs.Stores.{store_ops, store_update_ops, store_indexed_ops, store_indexed_update_ops, update_ops}
 use Rattle.base_mem.specs.Multiple.{lmw_ops, stmw_ops}
 
--- the instructions with an access
+-- the instructions with an access to memory
+abbrev pub has_access : Instr → Bool
+has_access (instr.Load op d a imm) = true
+has_access (instr.LoadUpdate op d a imm) = true
+has_access (instr.LoadIndexed op d a b) = true
+has_access (instr.LoadIndexedUpdate op d a b) = true
+has_access (instr.Store op s a imm) = true
+has_access (instr.StoreUpdate op s a imm) = true
+has_access (instr.StoreIndexed op s a b) = true
+has_access (instr.StoreIndexedUpdate op s a b) = true
+has_access (instr.Multiple op d a imm) = true
+has_access _ = false
+
 abbrev pub IsBuilt : Instr → Type 0
-IsBuilt (instr.Load op d a imm) = Unit {0}
-IsBuilt (instr.LoadUpdate op d a imm) = Unit {0}
-IsBuilt (instr.LoadIndexed op d a b) = Unit {0}
-IsBuilt (instr.LoadIndexedUpdate op d a b) = Unit {0}
-IsBuilt (instr.Store op s a imm) = Unit {0}
-IsBuilt (instr.StoreUpdate op s a imm) = Unit {0}
-IsBuilt (instr.StoreIndexed op s a b) = Unit {0}
-IsBuilt (instr.StoreIndexedUpdate op s a b) = Unit {0}
-IsBuilt (instr.Multiple op d a imm) = Unit {0}
-IsBuilt _ = ⊥
+IsBuilt i = has_access i ≡ true
 
 -- Their tiles, told without a map: the address, the access, and what is put into registers.
 abbrev pub symbolic_tile : Instr → List SymbolicOp

@@ -11,14 +11,12 @@ use Rattle.symbolic_tiles.specs.declared.flow_op.FlowOp.{FlowOp}
 use Rattle.symbolic_tiles.specs.declared.flow_op.FlowOp.TheVariants.{Plain, Jump, Mark, Edge, Leap}
 use Rattle.row_laws.specs.FlowWords.{is_flow}
 use Rattle.symbolic_tiles.specs.Marks.{AreLaid}
-use Rattle.base_alu.specs.Tile.{tile as alu_tile}
-use Rattle.base_alu.proofs.Tiles.{tiles_are_placeable}
+use Rattle.code_layout.proofs.StraightTiles.{tiles_are_placeable}
 use Rattle.base_flow.specs.Tile.{tile as flow_tile}
 use Rattle.base_flow.proofs.Tiles.{flow_tiles_are_laid}
-use Rattle.code_layout.specs.Built.{IsBuilt}
-use Rattle.code_layout.specs.Decoded.{IsBuiltDecoded}
+use Rattle.code_layout.specs.Decoded.{IsLegalDecoded}
 use Rattle.code_layout.specs.Places.{no_registers}
-use Rattle.code_layout.specs.Code.{IsPlaceable, IsLaid, straight, items}
+use Rattle.code_layout.specs.Code.{word_ops, IsPlaceable, IsLaid, straight, items}
 use Rattle.code_layout.proofs.BuiltWords.{is_map, straight_word, has_tile}
 
 items-hold : (items : List FlowOp) → AreLaid items → All IsLaid items
@@ -41,32 +39,32 @@ edge-holds true next zero d lt = tt
 edge-holds true next (suc k) d lt = absurd (omega arith)
 edge-holds false next k d lt = absurd (omega arith)
 
-all-laid : (i : Instr) (at : ℕ) (ends : Bool) → IsBuilt i → IsLegal i → All IsLaid (items (Some i) at ends)
-all-laid i at ends built legal = by_flow (is_flow i) refl
+all-laid : (i : Instr) (at : ℕ) (ends : Bool) → IsLegal i → All IsLaid (items (Some i) at ends)
+all-laid i at ends legal = by_flow (is_flow i) refl
   where
     by_flow : (b : Bool) → is_flow i ≡ b → All IsLaid (cond b (flow_tile i at no_registers) (straight i at ends))
-    by_flow true e = items-hold (flow_tile i at no_registers) (flow_tiles_are_laid i no_registers at legal is_map (has_tile i built e))
-    by_flow false e = plain-hold (alu_tile i no_registers) _ (tiles_are_placeable i no_registers legal (straight_word i built e) is_map) (edge-holds ends (next_address at))
+    by_flow true e = items-hold (flow_tile i at no_registers) (flow_tiles_are_laid i no_registers at legal is_map (has_tile i e))
+    by_flow false e = plain-hold (word_ops i no_registers) _ (tiles_are_placeable i no_registers legal (straight_word i e) is_map) (edge-holds ends (next_address at))
 
 -- the ops of a word that is no flow word, with the edge behind them
-pub items-edge : (i : Instr) (at next : ℕ) (ends : Bool) (ops : List Op) (flow : List FlowOp) → is_flow i ≡ false → ends ≡ true → next ≡ next_address at → ops ≡ alu_tile i no_registers → flow ≡ map (λ op. Plain op) ops → flow ++ Edge next ∷ [] ≡ items (Some i) at ends
+pub items-edge : (i : Instr) (at next : ℕ) (ends : Bool) (ops : List Op) (flow : List FlowOp) → is_flow i ≡ false → ends ≡ true → next ≡ next_address at → ops ≡ word_ops i no_registers → flow ≡ map (λ op. Plain op) ops → flow ++ Edge next ∷ [] ≡ items (Some i) at ends
 items-edge i at next ends ops flow straight_on last here made plain = rw (straight_on, last, here, plain, made) refl
 
-pub items-inside : (i : Instr) (at : ℕ) (ends : Bool) (ops : List Op) (flow : List FlowOp) → is_flow i ≡ false → ends ≡ false → ops ≡ alu_tile i no_registers → flow ≡ map (λ op. Plain op) ops → flow ≡ items (Some i) at ends
+pub items-inside : (i : Instr) (at : ℕ) (ends : Bool) (ops : List Op) (flow : List FlowOp) → is_flow i ≡ false → ends ≡ false → ops ≡ word_ops i no_registers → flow ≡ map (λ op. Plain op) ops → flow ≡ items (Some i) at ends
 items-inside i at ends ops flow straight_on inside made plain = rw (straight_on, inside, plain, made) (sym (append-nil _))
 
 illegal-laid : All IsLaid (Plain Ud2 ∷ [])
 illegal-laid zero d lt = λ area low. tt
 illegal-laid (suc k) d lt = absurd (omega arith)
 
-each-laid : (word : Option Instr) (at : ℕ) (ends : Bool) → IsBuiltDecoded word → All IsLaid (items word at ends)
-each-laid (Some i) at ends built = all-laid i at ends built.1 built.0
+each-laid : (word : Option Instr) (at : ℕ) (ends : Bool) → IsLegalDecoded word → All IsLaid (items word at ends)
+each-laid (Some i) at ends legal = all-laid i at ends legal
 each-laid None at ends built = illegal-laid
 
 -- every item of a built word is laid out
-pub items-laid : (word : Option Instr) (at : ℕ) (ends : Bool) (made : List FlowOp) → IsBuiltDecoded word → made ≡ items word at ends → All IsLaid made
+pub items-laid : (word : Option Instr) (at : ℕ) (ends : Bool) (made : List FlowOp) → IsLegalDecoded word → made ≡ items word at ends → All IsLaid made
 items-laid word at ends made built e = subst (λ (xs : List FlowOp). All IsLaid xs) (sym e) (each-laid word at ends built)
 
-pub made-laid : {E : Type 0} (word : Option Instr) (at : ℕ) (ends : Bool) (result : Result (Vec FlowOp Global) E) → IsBuiltDecoded word → IfOk result (λ v. v.items ≡ items word at ends) → IfOk result (λ v. All IsLaid v.items)
+pub made-laid : {E : Type 0} (word : Option Instr) (at : ℕ) (ends : Bool) (result : Result (Vec FlowOp Global) E) → IsLegalDecoded word → IfOk result (λ v. v.items ≡ items word at ends) → IfOk result (λ v. All IsLaid v.items)
 made-laid word at ends (Ok v) built made = items-laid word at ends v.items built made
 made-laid word at ends (Err e) built made = tt

@@ -1,3 +1,4 @@
+pub mod StraightTiles
 pub mod BuiltWords
 pub mod Bases
 pub mod LaidItems

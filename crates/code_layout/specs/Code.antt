@@ -11,7 +11,9 @@ use Rattle.ia_codec.specs.declared.op.Condition.TheVariants.{Below, NotBelow, Eq
 pub use Rattle.reg_map.specs.Relocated.{operand_at, op_at, IsPlaceable}
 use Rattle.code_layout.specs.Leap.{leap_ops}
 use Rattle.code_layout.specs.Places.{no_registers, Moves, Places}
+use Rattle.ppc_isa.specs.declared.map.Map.{Map}
 use Rattle.base_alu.specs.Tile.{tile as alu_tile}
+use Rattle.base_mem.specs.Tile.{has_access, tile as access_tile}
 use Rattle.base_flow.specs.Tile.{tile as flow_tile, illegal_items}
 use Rattle.symbolic_tiles.specs.TileItems.{flows_of}
 use Rattle.machines.specs.Guest.{behind as next_address}
@@ -19,9 +21,13 @@ use Rattle.row_laws.specs.FlowWords.{is_flow}
 use Rattle.symbolic_tiles.specs.declared.flow_op.FlowOp.{FlowOp}
 use Rattle.symbolic_tiles.specs.declared.flow_op.FlowOp.TheVariants.{Plain, Jump, Mark, Edge, Leap}
 
--- the tile of a word that is no flow word, with the edge to the next address where its block ends
+-- the tile of a word that is no flow word
+abbrev pub word_ops : Instr → Map → List Op
+word_ops i map = if has_access i then access_tile i map else alu_tile i map
+
+-- this tile, with the edge to the next address where its block ends
 abbrev pub straight : Instr → ℕ → Bool → List FlowOp
-straight i at ends = map (λ op. Plain op) (alu_tile i no_registers) ++ (if ends then Edge (next_address at) ∷ [] else [])
+straight i at ends = map (λ op. Plain op) (word_ops i no_registers) ++ (if ends then Edge (next_address at) ∷ [] else [])
 
 -- the items of a word at an address, at the end of its block or before it
 abbrev pub items : Option Instr → ℕ → Bool → List FlowOp

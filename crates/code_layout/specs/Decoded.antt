@@ -2,7 +2,6 @@
 use Rattle.std.specs.Prelude.{◌≡◌, ℕ, ◌<◌, List, length, get_or, slice_index, Option, Some, None}
 use Rattle.ppc_isa.specs.Legal.{IsLegal, IsWordOf}
 use Rattle.ppc_isa.specs.declared.instr.Instr.{Instr}
-use Rattle.code_layout.specs.Built.{IsBuilt}
 
 -- the word is this instruction's; None: it is none's
 abbrev pub IsDecodedAs : ℕ → Option Instr → Type 0
@@ -18,7 +17,7 @@ pub record AreDecodedAs (words : List ℕ) (decoded : List (Option Instr)) : Typ
   pub count : length decoded ≡ length words
   pub each : (k : ℕ) → k < length words → IsDecodedAs (slice_index words k) (decoded_at decoded k)
 
--- translation is built for it
-abbrev pub IsBuiltDecoded : Option Instr → Type 0
-IsBuiltDecoded (Some i) = IsLegal i × IsBuilt i
-IsBuiltDecoded None = Unit {0}
+-- a decoded word: an instruction is legal
+abbrev pub IsLegalDecoded : Option Instr → Type 0
+IsLegalDecoded (Some i) = IsLegal i
+IsLegalDecoded None = Unit {0}

@@ -1,7 +1,7 @@
 //! The blocks of a program, and the order in which their code stands.
 
 ghost use Rattle.std.specs.Prelude.{◌≡◌, ◌≢◌, ◌≤◌, ◌<◌, ◌+◌, ◌*◌, ◌^◌, ◌↔◌, ℕ, IsTrue, IfOk, OnOk, MatchOption, Some, All, ◌++◌, true, length, vec_len, get_or, slice_index};
-ghost use Rattle.code_layout.specs.Decoded.{IsBuiltDecoded, decoded_at};
+ghost use Rattle.code_layout.specs.Decoded.{IsLegalDecoded, decoded_at};
 ghost use Rattle.code_layout.specs.Blocks.{address_of as address, IsAmong, IsCut, IsSet, code_order, singles, beginnings};
 ghost use Rattle.code_layout.specs.Leaders.{ends_block as ends_block_of, named_by as named_by_of, named_address as named_address_of, IsLeader};
 ghost use Rattle.ppc_isa.specs.Legal.{IsLegal};
@@ -53,7 +53,7 @@ pub fn place_at(first: u32, at: u32, count: usize) -> Option<usize>
 /// Which code words are leaders: the first one, the one at which the run begins, those that a branch
 /// names, the one behind each flow word, and the one behind a block of 64 words.
 pub fn leaders(alloc: Global, source: &Source<'_>) -> Result<Vec<bool>, NoMemory>
-    requires built { (k : ℕ) → k < length source.now.words.now → IsBuiltDecoded (decoded_at source.now.words.now k) }
+    requires legal { (k : ℕ) → k < length source.now.words.now → IsLegalDecoded (decoded_at source.now.words.now k) }
     ensures count { IfOk result (λ v. vec_len v ≡ length source.now.words.now) }
     ensures each { IfOk result (λ v. (k : ℕ) → k < length source.now.words.now → IsSet v.items k ↔ IsLeader source.now.first source.now.entry source.now.words.now k) }
 {
@@ -84,7 +84,7 @@ fn ends_block(word: &Option<Instr>) -> bool
 
 // The place of the code word that the word at a place names, where it is a branch to one.
 fn named_place(word: &Option<Instr>, source: &Source<'_>, place: usize) -> Option<usize>
-    requires built { IsBuiltDecoded word.now }
+    requires legal { IsLegalDecoded word.now }
     requires place { place < length source.now.words.now }
     ensures { MatchOption result ((k : ℕ) → k < length source.now.words.now → named_address_of source.now.first word.now place ≢ Some (address source.now.first k)) (λ k. (k < length source.now.words.now) × (named_address_of source.now.first word.now place ≡ Some (address source.now.first k))) }
 {
@@ -94,7 +94,7 @@ fn named_place(word: &Option<Instr>, source: &Source<'_>, place: usize) -> Optio
 
 // The address that a word at an address names, where it is a branch.
 fn named_by(word: &Option<Instr>, at: u32) -> Option<u32>
-    requires { IsBuiltDecoded word.now }
+    requires { IsLegalDecoded word.now }
     ensures { result ≡ named_by_of word.now at }
 {
     match word {

@@ -1,18 +1,15 @@
 //! The instructions that translation is built for.
 
-ghost use Rattle.std.specs.Prelude.{◌≡◌, ◌<◌, ◌↔◌, ℕ, IsTrue, IfOk, IfSome, IfNone, length, slice_index};
+ghost use Rattle.std.specs.Prelude.{◌≡◌, ◌<◌, ◌↔◌, ℕ, IsTrue, IfSome, IfNone, length, slice_index};
 ghost use Rattle.code_layout.specs.Built.{IsBuilt, IsBuiltWord};
-ghost use Rattle.code_layout.specs.Decoded.{AreDecodedAs};
 
 use ppc_isa::{Instr, decode};
-use std::alloc::Global;
-use word_kit::NoMemory;
 
 // Whether translation is built for the instruction.
 fn is_built(instr: &Instr) -> bool
     ensures { IsTrue result ↔ IsBuilt instr.now }
 {
-    base_alu::is_built(instr) || base_flow::is_built(instr)
+    base_alu::is_built(instr) || base_mem::is_built(instr) || base_flow::is_built(instr)
 }
 
 // Whether translation is built for the word.
@@ -38,18 +35,4 @@ pub fn first_unbuilt(words: &[u32]) -> Option<usize>
         }
     }
     None
-}
-
-/// The words, each decoded.
-///
-/// # Errors
-/// `NoMemory` where there is no memory for them.
-pub fn decoded(alloc: Global, words: &[u32]) -> Result<Vec<Option<Instr>>, NoMemory>
-    ensures { IfOk result (λ v. AreDecodedAs words.now v.items) }
-{
-    let mut decoded = Vec::with_capacity(alloc, words.len())?;
-    for word in words {
-        decoded.push(decode(*word))?;
-    }
-    Ok(decoded)
 }

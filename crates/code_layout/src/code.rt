@@ -3,10 +3,11 @@
 ghost use Rattle.std.specs.Prelude.{◌≡◌, ◌≤◌, ◌<◌, ◌+◌, ◌*◌, ◌^◌, [], ◌∷◌, ◌++◌, Some, IfOk, OnOk, All, map, length, vec_len};
 ghost use Rattle.ia_codec.specs.Spelling.{spelling, IsInProfile, IsOperand};
 ghost use Rattle.ppc_isa.specs.Legal.{IsLegal};
-ghost use Rattle.code_layout.specs.Built.{IsBuilt};
-ghost use Rattle.code_layout.specs.Decoded.{IsBuiltDecoded};
+ghost use Rattle.code_layout.specs.Built.{IsBuiltStraight};
+ghost use Rattle.code_layout.specs.Decoded.{IsLegalDecoded};
+ghost use Rattle.reg_map.specs.Place.{IsMap};
 ghost use Rattle.reg_map.specs.Relocated.{operand_at as operand_over, op_at};
-ghost use Rattle.code_layout.specs.Code.{IsLaid, items, jump as jump_of, item_length as length_of, items_length, before_mark as before_mark_of, spelled, leap_bytes, item_bytes, items_bytes};
+ghost use Rattle.code_layout.specs.Code.{IsLaid, word_ops, items, jump as jump_of, item_length as length_of, items_length, before_mark as before_mark_of, spelled, leap_bytes, item_bytes, items_bytes};
 ghost use Rattle.code_layout.specs.Leap.{leap_ops as leap_ops_of};
 ghost use Rattle.code_layout.specs.Places.{no_moves};
 ghost use Rattle.code_layout.specs.PlacesOf.{places_of};
@@ -32,7 +33,7 @@ pub fn word_items(
     at: u32,
     ends: bool,
 ) -> Result<Vec<FlowOp>, NoMemory>
-    requires { IsBuiltDecoded word.now }
+    requires { IsLegalDecoded word.now }
     ensures items { IfOk result (λ v. v.items ≡ items word.now at ends) }
     ensures laid { IfOk result (λ v. All IsLaid v.items) }
     ensures few { IfOk result (λ v. vec_len v ≤ 129) }
@@ -46,8 +47,7 @@ pub fn word_items(
 
 // The items of an instruction at an address, at the end of its block or before it.
 fn items_of(alloc: Global, instr: &Instr, at: u32, ends: bool) -> Result<Vec<FlowOp>, NoMemory>
-    requires built { IsBuilt instr.now }
-    requires legal { IsLegal instr.now }
+    requires { IsLegal instr.now }
     ensures items { IfOk result (λ v. v.items ≡ items (Some instr.now) at ends) }
     ensures few { IfOk result (λ v. vec_len v ≤ 129) }
 {
@@ -59,12 +59,27 @@ fn items_of(alloc: Global, instr: &Instr, at: u32, ends: bool) -> Result<Vec<Flo
     if is_flow(instr) {
         return base_flow::emit(alloc, instr, at, &map);
     }
-    let ops = base_alu::emit(alloc, instr, &map)?;
+    let ops = straight_ops(alloc, instr, &map)?;
     let flow = plain_items(alloc, &ops)?;
     if ends {
         with_edge(flow, next_address(at))
     } else {
         Ok(flow)
+    }
+}
+
+// The ops of a word that is no flow word.
+fn straight_ops(alloc: Global, instr: &Instr, map: &Map) -> Result<Vec<Op>, NoMemory>
+    requires map { IsMap map.now }
+    requires built { IsBuiltStraight instr.now }
+    requires legal { IsLegal instr.now }
+    ensures ops { IfOk result (λ ops. ops.items ≡ word_ops instr.now map.now) }
+    ensures few { IfOk result (λ ops. length ops.items ≤ 128) }
+{
+    if base_mem::is_built(instr) {
+        base_mem::emit(alloc, instr, map)
+    } else {
+        base_alu::emit(alloc, instr, map)
     }
 }
 

@@ -1,7 +1,7 @@
 //! The code segment: `hold`, the leaders' blocks and the singles, each at its address.
 
 ghost use Rattle.std.specs.Prelude.{◌≡◌, ◌≤◌, ◌<◌, ◌+◌, ◌*◌, ◌^◌, ℕ, IfOk, All, length, vec_len, slice_index};
-ghost use Rattle.code_layout.specs.Decoded.{IsBuiltDecoded, decoded_at};
+ghost use Rattle.code_layout.specs.Decoded.{IsLegalDecoded, decoded_at};
 ghost use Rattle.code_layout.specs.Blocks.{IsAmong, beginnings};
 ghost use Rattle.code_layout.specs.Places.{no_moves};
 ghost use Rattle.code_layout.specs.PlacesOf.{places_of};
@@ -25,7 +25,7 @@ pub fn entries(
     order: &[Laid],
     code: u32,
 ) -> Result<Vec<u32>, NoMemory>
-    requires built { (k : ℕ) → k < length source.now.words.now → IsBuiltDecoded (decoded_at source.now.words.now k) }
+    requires legal { (k : ℕ) → k < length source.now.words.now → IsLegalDecoded (decoded_at source.now.words.now k) }
     requires among { All (IsAmong (length source.now.words.now)) order.now }
     requires once { (k : ℕ) → k < length source.now.words.now → beginnings k order.now ≡ 1 }
     requires room { code + 5 + 636 * length order.now < 2 ^ 32 }
@@ -51,7 +51,7 @@ pub fn code(
     order: &[Laid],
     layout: &Layout<'_>,
 ) -> Result<Vec<u8>, NoMemory>
-    requires built { (k : ℕ) → k < length source.now.words.now → IsBuiltDecoded (decoded_at source.now.words.now k) }
+    requires legal { (k : ℕ) → k < length source.now.words.now → IsLegalDecoded (decoded_at source.now.words.now k) }
     requires among { All (IsAmong (length source.now.words.now)) order.now }
     requires first { layout.now.first ≡ source.now.first }
     requires room { layout.now.code + 12 + 4128 + 636 * length order.now < 2 ^ 32 }

@@ -1,6 +1,6 @@
 use Rattle.std.proofs.Common.{◌≡◌, ◌<◌, ℕ, slice_index, vec_len}
 use Rattle.code_layout.specs.Decoded.{IsDecodedAs, decoded_at}
-use Rattle.code_layout.proofs.built.decoded.Given as goal
+use Rattle.code_layout.proofs.decoded.decoded_words.Given as goal
 
 abbrev pub invariant-loop-word : goal.invariant-loop-word
 invariant-loop-word l = record {
