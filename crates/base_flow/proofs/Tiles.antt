@@ -19,7 +19,7 @@ use Rattle.symbolic_tiles.specs.TileItems.{flows_of, doing, IsFree}
 use Rattle.base_flow.specs.Traps.{when_jump, trap_tests, trap_items, tw_ops, twi_ops}
 use Rattle.base_flow.specs.Branches.{link_ops, count_ops, count_fails, bit_ops, bit_fails, unless, otherwise, branch_items}
 use Rattle.base_flow.specs.SystemCall.{done_items, error_items, failure_items, success_items, answer_items, request_items, selection_items}
-use Rattle.base_flow.specs.Tile.{items_of, HasTile}
+use Rattle.base_flow.specs.Tile.{LeavesEbx, items_of, HasTile}
 use Rattle.base_flow.specs.Laws.{BuiltHaveTiles, FlowTilesAreLaid, FlowTilesDoRows, IllegalTileDoesWord, FlowTilesAreMarked}
 use Rattle.symbolic_tiles.specs.Marks.{AreMarked, has_mark}
 use Rattle.symbolic_tiles.proofs.Places.{slot_content}
@@ -157,6 +157,8 @@ flow_tiles_are_laid instr.SystemCall m at legal is flow = items_laid m is (items
 flow_tiles_are_laid _ m at legal is flow = absurd (false≢true flow.0)
 
 pub built_have_tiles : BuiltHaveTiles
-built_have_tiles (instr.Branch target absolute false) m built free = (refl, tt)
-built_have_tiles instr.SystemCall m built free = (refl, free)
-built_have_tiles _ m built free = absurd built
+built_have_tiles i m built free = (built, leaves_ebx i)
+  where
+    leaves_ebx : (i : Instr) → LeavesEbx i m
+    leaves_ebx instr.SystemCall = free
+    leaves_ebx _ = tt

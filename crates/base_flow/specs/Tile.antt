@@ -41,8 +41,6 @@ illegal_items = Undefined ∷ []
 abbrev pub tile : Instr → ℕ → Map → List FlowOp
 tile i at m = flows_of (items_of i at) m
 
--- the flow words whose items the layout can place so far: b that doesn't link, and sc
+-- the instructions that have such a tile
 abbrev pub IsBuilt : Instr → Type 0
-IsBuilt (instr.Branch target absolute false) = Unit {0}
-IsBuilt instr.SystemCall = Unit {0}
-IsBuilt _ = ⊥
+IsBuilt i = is_flow i ≡ true

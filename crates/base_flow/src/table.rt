@@ -28,14 +28,11 @@ pub fn is_flow(instr: &Instr) -> bool
     )
 }
 
-/// Whether the layout can place the instruction's items so far: b that doesn't link, and sc.
+/// Whether the instruction has a tile here.
 pub fn is_built(instr: &Instr) -> bool
     ensures { IsTrue result ↔ IsBuilt instr.now }
 {
-    matches!(
-        *instr,
-        Instr::Branch { link: false, .. } | Instr::SystemCall
-    )
+    is_flow(instr)
 }
 
 /// The tile of the flow word at the guest address.

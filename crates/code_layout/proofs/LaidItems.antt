@@ -1,10 +1,11 @@
 -- Every item of a built instruction is laid out.
-use Rattle.std.proofs.Common.{ℕ, zero, suc, ◌≡◌, Bool, true, false, cond, List, [], ◌∷◌, ◌++◌, map, All, arith, refl, sym, subst, Result, Ok, Err, Vec, Global, IfOk}
+use Rattle.std.proofs.Common.{ℕ, zero, suc, ◌≡◌, Bool, true, false, cond, List, [], ◌∷◌, ◌++◌, map, All, arith, refl, sym, subst, Option, Some, None, Result, Ok, Err, Vec, Global, IfOk}
 use Rattle.std.proofs.lemmas.List.{append-nil}
 use Rattle.std.proofs.lemmas.List.Elements.{All-head, All-tail}
-use Rattle.ppc_isa.specs.Legal.{IsLegal, IsWordOf}
+use Rattle.ppc_isa.specs.Legal.{IsLegal}
 use Rattle.ppc_isa.specs.declared.instr.Instr.{Instr}
 use Rattle.ia_codec.specs.declared.op.Op.{Op}
+use Rattle.ia_codec.specs.declared.op.Op.TheVariants.{Ud2}
 use Rattle.machines.specs.Guest.{behind as next_address}
 use Rattle.symbolic_tiles.specs.declared.flow_op.FlowOp.{FlowOp}
 use Rattle.symbolic_tiles.specs.declared.flow_op.FlowOp.TheVariants.{Plain, Jump, Mark, Edge, Leap}
@@ -13,7 +14,7 @@ use Rattle.symbolic_tiles.specs.Marks.{AreLaid}
 use Rattle.code_layout.proofs.StraightTiles.{tiles_are_placeable}
 use Rattle.base_flow.specs.Tile.{tile as flow_tile}
 use Rattle.base_flow.proofs.Tiles.{flow_tiles_are_laid}
-use Rattle.code_layout.specs.Built.{IsBuilt}
+use Rattle.code_layout.specs.Decoded.{IsLegalDecoded}
 use Rattle.code_layout.specs.Places.{no_registers}
 use Rattle.code_layout.specs.Code.{word_ops, IsPlaceable, IsLaid, straight, items}
 use Rattle.code_layout.proofs.BuiltWords.{is_map, straight_word, has_tile}
@@ -38,24 +39,32 @@ edge-holds true next zero d lt = tt
 edge-holds true next (suc k) d lt = absurd (omega arith)
 edge-holds false next k d lt = absurd (omega arith)
 
-all-laid : (i : Instr) (at : ℕ) (ends : Bool) → IsBuilt i → IsLegal i → All IsLaid (items i at ends)
-all-laid i at ends built legal = by_flow (is_flow i) refl
+all-laid : (i : Instr) (at : ℕ) (ends : Bool) → IsLegal i → All IsLaid (items (Some i) at ends)
+all-laid i at ends legal = by_flow (is_flow i) refl
   where
     by_flow : (b : Bool) → is_flow i ≡ b → All IsLaid (cond b (flow_tile i at no_registers) (straight i at ends))
-    by_flow true e = items-hold (flow_tile i at no_registers) (flow_tiles_are_laid i no_registers at legal is_map (has_tile i built e))
-    by_flow false e = plain-hold (word_ops i no_registers) _ (tiles_are_placeable i no_registers legal (straight_word i built e) is_map) (edge-holds ends (next_address at))
+    by_flow true e = items-hold (flow_tile i at no_registers) (flow_tiles_are_laid i no_registers at legal is_map (has_tile i e))
+    by_flow false e = plain-hold (word_ops i no_registers) _ (tiles_are_placeable i no_registers legal (straight_word i e) is_map) (edge-holds ends (next_address at))
 
 -- the ops of a word that is no flow word, with the edge behind them
-pub items-edge : (i : Instr) (at next : ℕ) (ends : Bool) (ops : List Op) (flow : List FlowOp) → is_flow i ≡ false → ends ≡ true → next ≡ next_address at → ops ≡ word_ops i no_registers → flow ≡ map (λ op. Plain op) ops → flow ++ Edge next ∷ [] ≡ items i at ends
+pub items-edge : (i : Instr) (at next : ℕ) (ends : Bool) (ops : List Op) (flow : List FlowOp) → is_flow i ≡ false → ends ≡ true → next ≡ next_address at → ops ≡ word_ops i no_registers → flow ≡ map (λ op. Plain op) ops → flow ++ Edge next ∷ [] ≡ items (Some i) at ends
 items-edge i at next ends ops flow straight_on last here made plain = rw (straight_on, last, here, plain, made) refl
 
-pub items-inside : (i : Instr) (at : ℕ) (ends : Bool) (ops : List Op) (flow : List FlowOp) → is_flow i ≡ false → ends ≡ false → ops ≡ word_ops i no_registers → flow ≡ map (λ op. Plain op) ops → flow ≡ items i at ends
+pub items-inside : (i : Instr) (at : ℕ) (ends : Bool) (ops : List Op) (flow : List FlowOp) → is_flow i ≡ false → ends ≡ false → ops ≡ word_ops i no_registers → flow ≡ map (λ op. Plain op) ops → flow ≡ items (Some i) at ends
 items-inside i at ends ops flow straight_on inside made plain = rw (straight_on, inside, plain, made) (sym (append-nil _))
 
--- every item of a built instruction is laid out
-pub items-laid : (i : Instr) (at : ℕ) (ends : Bool) (made : List FlowOp) → IsBuilt i → IsLegal i → made ≡ items i at ends → All IsLaid made
-items-laid i at ends made built legal e = subst (λ (xs : List FlowOp). All IsLaid xs) (sym e) (all-laid i at ends built legal)
+illegal-laid : All IsLaid (Plain Ud2 ∷ [])
+illegal-laid zero d lt = λ area low. tt
+illegal-laid (suc k) d lt = absurd (omega arith)
 
-pub items-of-word : {E : Type 0} (word at : ℕ) (ends : Bool) (i : Instr) (result : Result (Vec FlowOp Global) E) → IsWordOf word i → IfOk result (λ v. v.items ≡ items i at ends) → IfOk result (λ v. (j : Instr) × IsWordOf word j × (v.items ≡ items j at ends))
-items-of-word word at ends i (Ok v) spelled made = (i, spelled, made)
-items-of-word word at ends i (Err e) spelled made = tt
+each-laid : (word : Option Instr) (at : ℕ) (ends : Bool) → IsLegalDecoded word → All IsLaid (items word at ends)
+each-laid (Some i) at ends legal = all-laid i at ends legal
+each-laid None at ends built = illegal-laid
+
+-- every item of a built word is laid out
+pub items-laid : (word : Option Instr) (at : ℕ) (ends : Bool) (made : List FlowOp) → IsLegalDecoded word → made ≡ items word at ends → All IsLaid made
+items-laid word at ends made built e = subst (λ (xs : List FlowOp). All IsLaid xs) (sym e) (each-laid word at ends built)
+
+pub made-laid : {E : Type 0} (word : Option Instr) (at : ℕ) (ends : Bool) (result : Result (Vec FlowOp Global) E) → IsLegalDecoded word → IfOk result (λ v. v.items ≡ items word at ends) → IfOk result (λ v. All IsLaid v.items)
+made-laid word at ends (Ok v) built made = items-laid word at ends v.items built made
+made-laid word at ends (Err e) built made = tt

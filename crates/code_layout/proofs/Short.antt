@@ -14,7 +14,7 @@ use Rattle.symbolic_tiles.specs.Tiles.{spelled_bytes}
 use Rattle.code_layout.proofs.StraightTiles.{tiles_are_short}
 use Rattle.base_flow.specs.Tile.{tile as flow_tile}
 use Rattle.base_flow.proofs.Room.{flow_tiles_are_short}
-use Rattle.code_layout.specs.Built.{IsBuilt}
+use Rattle.code_layout.specs.Decoded.{IsLegalDecoded}
 use Rattle.code_layout.specs.Places.{no_registers, no_moves}
 use Rattle.code_layout.specs.Code.{word_ops, straight, items, items_length, item_length, jump_on, condition_of}
 use Rattle.code_layout.proofs.BuiltWords.{straight_word}
@@ -53,13 +53,21 @@ flows-short (item ∷ items) = let a = item-short item in let b = flows-short it
 straight-short : (ops : List Op) (ends : Bool) (next : ℕ) → spelled_bytes ops ≤ 631 → items_length no_moves (map (λ op. Plain op) ops ++ cond ends (Edge next ∷ []) []) ≤ 636
 straight-short ops ends next h = omega (arith, h, plain-length ops, edge-length ends next, length-append (map (λ op. Plain op) ops) (cond ends (Edge next ∷ []) []))
 
-each-short : (i : Instr) (at : ℕ) (ends : Bool) → IsBuilt i → IsLegal i → items_length no_moves (items i at ends) ≤ 636
-each-short i at ends built legal = by_flow (is_flow i) refl
+some-short : (i : Instr) (at : ℕ) (ends : Bool) → IsLegal i → items_length no_moves (items (Some i) at ends) ≤ 636
+some-short i at ends legal = by_flow (is_flow i) refl
   where
     by_flow : (b : Bool) → is_flow i ≡ b → items_length no_moves (cond b (flow_tile i at no_registers) (straight i at ends)) ≤ 636
     by_flow true e = omega (arith, flows-short (flow_tile i at no_registers), flow_tiles_are_short i no_registers at)
-    by_flow false e = straight-short (word_ops i no_registers) ends (next_address at) (tiles_are_short i no_registers legal (straight_word i built e)).1
+    by_flow false e = straight-short (word_ops i no_registers) ends (next_address at) (tiles_are_short i no_registers legal (straight_word i e)).1
 
-pub items-short : {E : Type 0} (i : Instr) (at : ℕ) (ends : Bool) (result : Result (Vec FlowOp Global) E) → IsBuilt i → IsLegal i → IfOk result (λ v. v.items ≡ items i at ends) → IfOk result (λ v. items_length no_moves v.items ≤ 636)
-items-short i at ends (Ok v) built legal made = subst (λ (xs : List FlowOp). items_length no_moves xs ≤ 636) (sym made) (each-short i at ends built legal)
-items-short i at ends (Err e) built legal made = tt
+none-short : (at : ℕ) (ends : Bool) → items_length no_moves (items None at ends) ≤ 636
+unfolding items_length
+none-short at ends = omega arith
+
+each-short : (word : Option Instr) (at : ℕ) (ends : Bool) → IsLegalDecoded word → items_length no_moves (items word at ends) ≤ 636
+each-short (Some i) at ends legal = some-short i at ends legal
+each-short None at ends built = none-short at ends
+
+pub made-short : {E : Type 0} (word : Option Instr) (at : ℕ) (ends : Bool) (result : Result (Vec FlowOp Global) E) → IsLegalDecoded word → IfOk result (λ v. v.items ≡ items word at ends) → IfOk result (λ v. items_length no_moves v.items ≤ 636)
+made-short word at ends (Ok v) built made = subst (λ (xs : List FlowOp). items_length no_moves xs ≤ 636) (sym made) (each-short word at ends built)
+made-short word at ends (Err e) built made = tt

@@ -14,7 +14,6 @@ IsBuiltStraight i = IsBuiltAlu i ⊎ IsBuiltAccess i
 abbrev pub IsBuilt : Instr → Type 0
 IsBuilt i = IsBuiltStraight i ⊎ IsBuiltFlow i
 
-pub record IsBuiltWord (word : ℕ) : Type 0 where
-  pub instr : Instr
-  pub spelled : IsWordOf word instr
-  pub built : IsBuilt instr
+-- the word's instruction is one of them, if it is a legal word
+abbrev pub IsBuiltWord : ℕ → Type 0
+IsBuiltWord word = (i : Instr) → IsWordOf word i → IsBuilt i

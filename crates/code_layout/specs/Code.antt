@@ -14,7 +14,8 @@ use Rattle.code_layout.specs.Places.{no_registers, Moves, Places}
 use Rattle.ppc_isa.specs.declared.map.Map.{Map}
 use Rattle.base_alu.specs.Tile.{tile as alu_tile}
 use Rattle.base_mem.specs.Tile.{has_access, tile as access_tile}
-use Rattle.base_flow.specs.Tile.{tile as flow_tile}
+use Rattle.base_flow.specs.Tile.{tile as flow_tile, illegal_items}
+use Rattle.symbolic_tiles.specs.TileItems.{flows_of}
 use Rattle.machines.specs.Guest.{behind as next_address}
 use Rattle.row_laws.specs.FlowWords.{is_flow}
 use Rattle.symbolic_tiles.specs.declared.flow_op.FlowOp.{FlowOp}
@@ -28,9 +29,10 @@ word_ops i map = if has_access i then access_tile i map else alu_tile i map
 abbrev pub straight : Instr → ℕ → Bool → List FlowOp
 straight i at ends = map (λ op. Plain op) (word_ops i no_registers) ++ (if ends then Edge (next_address at) ∷ [] else [])
 
--- the items of an instruction at an address, at the end of its block or before it
-abbrev pub items : Instr → ℕ → Bool → List FlowOp
-items i at ends = if is_flow i then flow_tile i at no_registers else straight i at ends
+-- the items of a word at an address, at the end of its block or before it
+abbrev pub items : Option Instr → ℕ → Bool → List FlowOp
+items (Some i) at ends = if is_flow i then flow_tile i at no_registers else straight i at ends
+items None at ends = flows_of illegal_items no_registers
 
 -- an item whose op is in the profile over each home page
 abbrev pub IsLaid : FlowOp → Type 0

@@ -1,7 +1,6 @@
 //! The instructions that translation is built for.
 
 ghost use Rattle.std.specs.Prelude.{◌≡◌, ◌<◌, ◌↔◌, ℕ, IsTrue, IfSome, IfNone, length, slice_index};
-ghost use Rattle.ppc_isa.specs.Legal.{IsWordOf};
 ghost use Rattle.code_layout.specs.Built.{IsBuilt, IsBuiltWord};
 
 use ppc_isa::{Instr, decode};
@@ -13,13 +12,13 @@ fn is_built(instr: &Instr) -> bool
     base_alu::is_built(instr) || base_mem::is_built(instr) || base_flow::is_built(instr)
 }
 
-// Whether the word is an instruction that translation is built for.
+// Whether translation is built for the word.
 fn is_built_word(word: u32) -> bool
     ensures { IsTrue result ↔ IsBuiltWord word }
 {
     match decode(word) {
         Some(instr) => is_built(&instr),
-        None => false,
+        None => true,
     }
 }
 
@@ -36,16 +35,4 @@ pub fn first_unbuilt(words: &[u32]) -> Option<usize>
         }
     }
     None
-}
-
-/// The instruction of a word that translation is built for.
-pub(crate) fn instruction(word: u32) -> Instr
-    requires { IsBuiltWord word }
-    ensures spelled { IsWordOf word result }
-    ensures built { IsBuilt result }
-{
-    match decode(word) {
-        Some(instr) => instr,
-        None => unreachable!(),
-    }
 }

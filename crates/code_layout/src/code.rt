@@ -1,9 +1,10 @@
 //! The code of one word: its items, and these as bytes at their address.
 
-ghost use Rattle.std.specs.Prelude.{◌≡◌, ◌≤◌, ◌<◌, ◌+◌, ◌*◌, ◌^◌, [], ◌∷◌, ◌++◌, IfOk, OnOk, All, map, length, vec_len};
+ghost use Rattle.std.specs.Prelude.{◌≡◌, ◌≤◌, ◌<◌, ◌+◌, ◌*◌, ◌^◌, [], ◌∷◌, ◌++◌, Some, IfOk, OnOk, All, map, length, vec_len};
 ghost use Rattle.ia_codec.specs.Spelling.{spelling, IsInProfile, IsOperand};
-ghost use Rattle.ppc_isa.specs.Legal.{IsLegal, IsWordOf};
-ghost use Rattle.code_layout.specs.Built.{IsBuiltStraight, IsBuilt, IsBuiltWord};
+ghost use Rattle.ppc_isa.specs.Legal.{IsLegal};
+ghost use Rattle.code_layout.specs.Built.{IsBuiltStraight};
+ghost use Rattle.code_layout.specs.Decoded.{IsLegalDecoded};
 ghost use Rattle.reg_map.specs.Place.{IsMap};
 ghost use Rattle.reg_map.specs.Relocated.{operand_at as operand_over, op_at};
 ghost use Rattle.code_layout.specs.Code.{IsLaid, word_ops, items, jump as jump_of, item_length as length_of, items_length, before_mark as before_mark_of, spelled, leap_bytes, item_bytes, items_bytes};
@@ -11,7 +12,6 @@ ghost use Rattle.code_layout.specs.Leap.{leap_ops as leap_ops_of};
 ghost use Rattle.code_layout.specs.Places.{no_moves};
 ghost use Rattle.code_layout.specs.PlacesOf.{places_of};
 
-use crate::built::instruction;
 use crate::places::Layout;
 use base_flow::{FlowOp, is_flow, next_address};
 use ia_codec::{AluOp, Condition, Op, Operand, encode};
@@ -25,23 +25,30 @@ const LEAP_LENGTH: u32 = 32;
 
 const TO_HOLD_END: u32 = 26;
 
-/// The items of a code word at an address: its tile, and where its block ends without a flow word the
-/// edge to the next address.
-pub fn word_items(alloc: Global, word: u32, at: u32, ends: bool) -> Result<Vec<FlowOp>, NoMemory>
-    requires { IsBuiltWord word }
-    ensures items { IfOk result (λ v. (i : Instr) × IsWordOf word i × (v.items ≡ items i at ends)) }
+/// The items of a code word at an address: its tile, which is ud2 for an illegal word, and where its block
+/// ends without a flow word the edge to the next address.
+pub fn word_items(
+    alloc: Global,
+    word: &Option<Instr>,
+    at: u32,
+    ends: bool,
+) -> Result<Vec<FlowOp>, NoMemory>
+    requires { IsLegalDecoded word.now }
+    ensures items { IfOk result (λ v. v.items ≡ items word.now at ends) }
     ensures laid { IfOk result (λ v. All IsLaid v.items) }
     ensures few { IfOk result (λ v. vec_len v ≤ 129) }
     ensures short { IfOk result (λ v. items_length no_moves v.items ≤ 636) }
 {
-    items_of(alloc, &instruction(word), at, ends)
+    match word {
+        Some(instr) => items_of(alloc, instr, at, ends),
+        None => plain_items(alloc, &[Op::Ud2]),
+    }
 }
 
 // The items of an instruction at an address, at the end of its block or before it.
 fn items_of(alloc: Global, instr: &Instr, at: u32, ends: bool) -> Result<Vec<FlowOp>, NoMemory>
-    requires built { IsBuilt instr.now }
-    requires legal { IsLegal instr.now }
-    ensures items { IfOk result (λ v. v.items ≡ items instr.now at ends) }
+    requires { IsLegal instr.now }
+    ensures items { IfOk result (λ v. v.items ≡ items (Some instr.now) at ends) }
     ensures few { IfOk result (λ v. vec_len v ≤ 129) }
 {
     let map = Map {

@@ -1,11 +1,11 @@
 //! The code segment: `hold`, the leaders' blocks and the singles, each at its address.
 
 ghost use Rattle.std.specs.Prelude.{◌≡◌, ◌≤◌, ◌<◌, ◌+◌, ◌*◌, ◌^◌, ℕ, IfOk, All, length, vec_len, slice_index};
-ghost use Rattle.code_layout.specs.Built.{IsBuiltWord};
+ghost use Rattle.code_layout.specs.Decoded.{IsLegalDecoded, decoded_at};
 ghost use Rattle.code_layout.specs.Blocks.{IsAmong, beginnings};
 ghost use Rattle.code_layout.specs.Places.{no_moves};
 ghost use Rattle.code_layout.specs.PlacesOf.{places_of};
-ghost use Rattle.code_layout.specs.Layout.{IsCodeOf, BeginsAt};
+ghost use Rattle.code_layout.specs.Layout.{code_bytes, BeginsAt};
 
 use crate::blocks::{Laid, address_of};
 use crate::code::{length, put, put_op, word_items};
@@ -25,7 +25,7 @@ pub fn entries(
     order: &[Laid],
     code: u32,
 ) -> Result<Vec<u32>, NoMemory>
-    requires built { (k : ℕ) → k < length source.now.words.now → IsBuiltWord (slice_index source.now.words.now k) }
+    requires legal { (k : ℕ) → k < length source.now.words.now → IsLegalDecoded (decoded_at source.now.words.now k) }
     requires among { All (IsAmong (length source.now.words.now)) order.now }
     requires once { (k : ℕ) → k < length source.now.words.now → beginnings k order.now ≡ 1 }
     requires room { code + 5 + 636 * length order.now < 2 ^ 32 }
@@ -39,7 +39,7 @@ pub fn entries(
             entries[laid.place] = at;
         }
         let here = address_of(source.first, laid.place);
-        at += length(&word_items(alloc, source.words[laid.place], here, laid.ends)?);
+        at += length(&word_items(alloc, &source.words[laid.place], here, laid.ends)?);
     }
     Ok(entries)
 }
@@ -51,11 +51,11 @@ pub fn code(
     order: &[Laid],
     layout: &Layout<'_>,
 ) -> Result<Vec<u8>, NoMemory>
-    requires built { (k : ℕ) → k < length source.now.words.now → IsBuiltWord (slice_index source.now.words.now k) }
+    requires legal { (k : ℕ) → k < length source.now.words.now → IsLegalDecoded (decoded_at source.now.words.now k) }
     requires among { All (IsAmong (length source.now.words.now)) order.now }
     requires first { layout.now.first ≡ source.now.first }
     requires room { layout.now.code + 12 + 4128 + 636 * length order.now < 2 ^ 32 }
-    ensures bytes { IfOk result (λ v. IsCodeOf source.now.words.now (places_of layout.now) order.now v.items) }
+    ensures bytes { IfOk result (λ v. v.items ≡ code_bytes source.now.words.now (places_of layout.now) order.now) }
     ensures bound { IfOk result (λ v. vec_len v ≤ 12 + 636 * length order.now) }
 {
     let mut code = Vec::new(alloc);
@@ -67,7 +67,7 @@ pub fn code(
     )?;
     for laid in order {
         let here = address_of(source.first, laid.place);
-        let items = word_items(alloc, source.words[laid.place], here, laid.ends)?;
+        let items = word_items(alloc, &source.words[laid.place], here, laid.ends)?;
         put(&mut code, &items, layout)?;
     }
     Ok(code)

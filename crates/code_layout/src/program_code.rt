@@ -1,7 +1,7 @@
 //! The code of a program over its host area.
 
 ghost use Rattle.std.specs.Prelude.{◌≡◌, ◌≤◌, ◌<◌, ◌+◌, ℕ, IfOk, length, slice_index};
-ghost use Rattle.code_layout.specs.Built.{IsBuiltWord};
+ghost use Rattle.code_layout.specs.Decoded.{IsLegalDecoded, decoded_at};
 ghost use Rattle.code_layout.specs.Layout.{IsCodeFor};
 
 use crate::blocks::{leaders, order};
@@ -20,7 +20,7 @@ const CODE_OFFSET: u32 = 0x8_1000;
 /// The code of a program over the host area that begins at `area`: `hold`, and behind it the block of
 /// each code word, with the table of where they stand.
 pub fn lay(alloc: Global, source: &Source<'_>, area: u32) -> Result<Code, NoMemory>
-    requires built { (k : ℕ) → k < length source.now.words.now → IsBuiltWord (slice_index source.now.words.now k) }
+    requires legal { (k : ℕ) → k < length source.now.words.now → IsLegalDecoded (decoded_at source.now.words.now k) }
     requires area { area + 0x0A000000 ≤ 0xBFFF0000 }
     ensures code { IfOk result (λ c. IsCodeFor source.now.first source.now.entry source.now.words.now area c.entries c.bytes) }
     ensures count { IfOk result (λ c. length c.entries ≡ length source.now.words.now) }

@@ -17,9 +17,10 @@ use Rattle.simulation.specs.Setting.{Setting, IsOffCode, JumpsTo}
 use Rattle.simulation.specs.Plan.{BlockAt, Begins}
 use Rattle.code_layout.specs.Blocks.{address_of, in_block, alone, singles, code_order}
 use Rattle.code_layout.specs.Places.{no_registers, no_moves, place_of, entry_of, Places, places_in}
+use Rattle.code_layout.specs.Layout.{laid_bytes}
 use Rattle.code_layout.specs.declared.blocks.Laid.{Laid}
 use Rattle.laid_code.specs.Bytes.{HasBytes, RunsCode}
-use Rattle.laid_code.specs.Instance.{code_start, setting_of, HasWords, AreBuilt, HasCodeFor}
+use Rattle.laid_code.specs.Instance.{code_start, setting_of, HasWords, AreDecodedAs, HasCodeFor}
 use Rattle.laid_code.specs.Laws.{IsBlockOrOff, BlocksStand, HoldStands}
 use Rattle.laid_code.proofs.Decoding.{first_bytes_at, next_bytes_at, ends_low, jump_leads}
 use Rattle.laid_code.proofs.Laid.{LaidAt, laid_at, Found, leading, behind, find_leader, find_single}
@@ -45,7 +46,7 @@ entry_or_hold first table hold P a off on = by (a == address_of first (place_of 
     by true e = inner (place_of first a) (eqb-true a (address_of first (place_of first a)) e) (cases_lt (place_of first a) (length table))
     by false e = off
 
-module _ (reading : ℕ → Option Instr) (ops : List ℕ → Option Fetched) (P Q : Program) (first entry : ℕ) (words : List ℕ) (area : ℕ) (table : List ℕ) (reads_ops : ReadsOps ops) (carried : HasCodeFor Q first entry words area table) where
+module _ (reading : ℕ → Option Instr) (ops : List ℕ → Option Fetched) (P Q : Program) (first entry : ℕ) (decoded : List (Option Instr)) (area : ℕ) (table : List ℕ) (reads_ops : ReadsOps ops) (carried : HasCodeFor Q first entry decoded area table) where
   abbrev s : Setting
   s = setting_of reading ops P Q first area table
 
@@ -62,21 +63,24 @@ module _ (reading : ℕ → Option Instr) (ops : List ℕ → Option Fetched) (P
   whole : HasBytes (code_of Q) (code_start area) (code_of Q).bytes
   whole = record { before = []; behind = []; cut = sym (append-nil (code_of Q).bytes); begins = let a = carried.at in omega (arith, a) }
 
-  holding : HasBytes (code_of Q) (code_start area) (spelling (Jmp (2 ^ 32 - 5)) ++ carried.code.laid.0)
-  holding = subst (HasBytes (code_of Q) (code_start area)) carried.code.laid.1 whole
+  abbrev all_bytes : List ℕ
+  all_bytes = laid_bytes decoded p (code_start area + 5) (code_order carried.code.leaders)
+
+  holding : HasBytes (code_of Q) (code_start area) (spelling (Jmp (2 ^ 32 - 5)) ++ all_bytes)
+  holding = subst (HasBytes (code_of Q) (code_start area)) carried.code.laid whole
 
   hold_low : code_start area + 5 < 2 ^ 32
-  hold_low = ends_low s (code_of Q) ops (code_start area) (spelling (Jmp (2 ^ 32 - 5))) runs (first_bytes_at (code_of Q) (code_start area) (spelling (Jmp (2 ^ 32 - 5))) carried.code.laid.0 holding)
+  hold_low = ends_low s (code_of Q) ops (code_start area) (spelling (Jmp (2 ^ 32 - 5))) runs (first_bytes_at (code_of Q) (code_start area) (spelling (Jmp (2 ^ 32 - 5))) all_bytes holding)
 
   pub hold_jumps : JumpsTo s (code_start area) (code_start area)
   hold_jumps =
       let low : code_start area + 5 < 2 ^ 32 = hold_low in
       let rel : 2 ^ 32 - 5 ≡ (code_start area + (2 ^ 32 - (code_start area + 5))) % 2 ^ 32 = omega (arith, low) in
-      jump_leads s (code_of Q) ops (code_start area) (code_start area) runs (omega (arith, low)) (subst (λ (r : ℕ). HasBytes (code_of Q) (code_start area) (spelling (Jmp r))) rel (first_bytes_at (code_of Q) (code_start area) (spelling (Jmp (2 ^ 32 - 5))) carried.code.laid.0 holding))
+      jump_leads s (code_of Q) ops (code_start area) (code_start area) runs (omega (arith, low)) (subst (λ (r : ℕ). HasBytes (code_of Q) (code_start area) (spelling (Jmp r))) rel (first_bytes_at (code_of Q) (code_start area) (spelling (Jmp (2 ^ 32 - 5))) all_bytes holding))
 
   -- all words stand behind it
-  laid : LaidAt words p (code_of Q) (code_start area + 5) (code_order carried.code.leaders)
-  laid = laid_at words p (code_of Q) (code_start area + 5) (code_order carried.code.leaders) carried.code.laid.0 carried.code.laid.2 (next_bytes_at (code_of Q) (code_start area) (spelling (Jmp (2 ^ 32 - 5))) carried.code.laid.0 holding)
+  laid : LaidAt decoded p (code_of Q) (code_start area + 5) (code_order carried.code.leaders)
+  laid = laid_at decoded p (code_of Q) (code_start area + 5) (code_order carried.code.leaders) (next_bytes_at (code_of Q) (code_start area) (spelling (Jmp (2 ^ 32 - 5))) all_bytes holding)
 
   abbrev single_places : List ℕ
   single_places = filter (λ place. not (get_or carried.code.leaders place false)) (range_with_len 0 (length carried.code.leaders))
@@ -84,61 +88,62 @@ module _ (reading : ℕ → Option Instr) (ops : List ℕ → Option Fetched) (P
   abbrev single_blocks : List Laid
   single_blocks = singles carried.code.leaders (length carried.code.leaders)
 
-  found : (k : ℕ) → k < length words → Found words p (code_of Q) carried.code.leaders single_blocks (length carried.code.leaders) k (slice_index table k)
-  found k lt = find_leader words p (code_of Q) carried.code.leaders single_blocks (length carried.code.leaders) k (slice_index table k) (code_start area + 5) 0 (length carried.code.leaders) (omega arith) laid (carried.code.entries k lt)
+  found : (k : ℕ) → k < length decoded → Found decoded p (code_of Q) carried.code.leaders single_blocks (length carried.code.leaders) k (slice_index table k)
+  found k lt = find_leader decoded p (code_of Q) carried.code.leaders single_blocks (length carried.code.leaders) k (slice_index table k) (code_start area + 5) 0 (length carried.code.leaders) (omega arith) laid (carried.code.entries k lt)
 
   -- every entry lies in the code
-  laid_low : (here : ℕ) (word : Laid) (order : List Laid) → LaidAt words p (code_of Q) here (word ∷ order) → here < 2 ^ 32
-  laid_low here word order h = omega (arith, ends_low s (code_of Q) ops here _ runs h.2)
+  laid_low : (here : ℕ) (word : Laid) (order : List Laid) → LaidAt decoded p (code_of Q) here (word ∷ order) → here < 2 ^ 32
+  laid_low here word order h = omega (arith, ends_low s (code_of Q) ops here _ runs h.0)
 
-  pub entry_low : (k : ℕ) → k < length words → slice_index table k < 2 ^ 32
+  pub entry_low : (k : ℕ) → k < length decoded → slice_index table k < 2 ^ 32
   entry_low k lt = by (found k lt)
     where
-      by : Found words p (code_of Q) carried.code.leaders single_blocks (length carried.code.leaders) k (slice_index table k) → slice_index table k < 2 ^ 32
+      by : Found decoded p (code_of Q) carried.code.leaders single_blocks (length carried.code.leaders) k (slice_index table k) → slice_index table k < 2 ^ 32
       by (leading more e set h) = laid_low (slice_index table k) (in_block carried.code.leaders k) (map (in_block carried.code.leaders) (range_with_len (k + 1) more) ++ single_blocks) h
       by (behind here h begins) =
-          let one = find_single words p (code_of Q) single_places k (slice_index table k) here h begins in
+          let one = find_single decoded p (code_of Q) single_places k (slice_index table k) here h begins in
           laid_low (slice_index table k) (alone k) one.0 one.1
 
   bounded : (address : ℕ) → targets address < 2 ^ 32
   bounded address =
       let low : code_start area + 5 < 2 ^ 32 = hold_low in
-      let count : length table ≡ length words = carried.count in
+      let count : length table ≡ length decoded = carried.count in
       entry_or_hold first table (code_start area) (λ t. t < 2 ^ 32) address (omega (arith, low)) (λ k lt e. entry_low k (omega (arith, lt, count)))
 
-  module _ (reads_words : ReadsWords reading) (has : HasWords P first words) (built : AreBuilt words) where
+  module _ (reads_words : ReadsWords reading) (words : List ℕ) (has : HasWords P first words) (are : AreDecodedAs words decoded) where
     are_placed : ArePlaced s
     are_placed =
         let low : code_start area + 5 < 2 ^ 32 = hold_low in
         let code_low = has.low in
         let count = carried.count in
+        let same = are.count in
         record {
           area = omega (arith, low);
           hold = omega (arith, low);
           table = omega (arith, low);
           first = omega (arith, code_low);
-          count = omega (arith, code_low, count);
+          count = omega (arith, code_low, count, same);
           targets = bounded;
         }
 
     abbrev Block : ℕ → ℕ → ℕ → Type 0
-    Block k here bound = BlockFrom reading ops P Q first entry words area table reads_words has built k here bound
+    Block k here bound = BlockFrom reading ops P Q first entry words decoded area table reads_words has are k here bound
 
-    block_at : (k : ℕ) → k < length words → Block k (slice_index table k) (k + 64)
+    block_at : (k : ℕ) → k < length decoded → Block k (slice_index table k) (k + 64)
     block_at k lt = by (found k lt)
       where
-        by : Found words p (code_of Q) carried.code.leaders single_blocks (length carried.code.leaders) k (slice_index table k) → Block k (slice_index table k) (k + 64)
+        by : Found decoded p (code_of Q) carried.code.leaders single_blocks (length carried.code.leaders) k (slice_index table k) → Block k (slice_index table k) (k + 64)
         by (leading more e set h) =
-            let count : length carried.code.leaders ≡ length words = carried.code.count in
-            leader_block reading ops P Q first entry words area table reads_words has built carried.code.leaders count carried.code.each single_blocks k more k (slice_index table k) lt set (e ∙ count) (omega arith) (λ i low high. absurd (omega (arith, low, high))) h
+            let count : length carried.code.leaders ≡ length decoded = carried.code.count in
+            leader_block reading ops P Q first entry words decoded area table reads_words has are carried.code.leaders count carried.code.each single_blocks k more k (slice_index table k) lt set (e ∙ count) (omega arith) (λ i low high. absurd (omega (arith, low, high))) h
         by (behind here h begins) =
-            let one = find_single words p (code_of Q) single_places k (slice_index table k) here h begins in
-            word_block reading ops P Q first entry words area table reads_words has built (alone k) one.0 (slice_index table k) (k + 64) lt (omega arith) one.1 (λ inner. absurd (false≢true (sym inner)))
+            let one = find_single decoded p (code_of Q) single_places k (slice_index table k) here h begins in
+            word_block reading ops P Q first entry words decoded area table reads_words has are (alone k) one.0 (slice_index table k) (k + 64) lt (omega arith) one.1 (λ inner. absurd (false≢true (sym inner)))
 
-    begins : (k : ℕ) → k < length words → Begins s (address_of first k)
+    begins : (k : ℕ) → k < length decoded → Begins s (address_of first k)
     begins k lt =
         let b = block_at k lt in
-        let count : length table ≡ length words = carried.count in
+        let count : length table ≡ length decoded = carried.count in
         let here : slice_index table k ≡ targets (address_of first k) = sym (entry_at first table (code_start area) k (omega (arith, lt, count))) in
         record {
           steps = b.steps;
@@ -155,9 +160,9 @@ module _ (reading : ℕ → Option Instr) (ops : List ℕ → Option Fetched) (P
 
     to_hold : (w : ℕ) → is_code_word (code_of P) w ≡ false → targets w ≡ code_start area
     to_hold w off =
-        let count : length table ≡ length words = carried.count in
+        let count : length table ≡ length decoded = carried.count in
         entry_or_hold first table (code_start area) (λ t. t ≡ code_start area) w refl
-        (λ k lt e. absurd (false≢true (sym off ∙ ap (λ (a : ℕ). is_code_word (code_of P) a) e ∙ has.here k (omega (arith, lt, count)))))
+        (λ k lt e. absurd (false≢true (sym off ∙ ap (λ (a : ℕ). is_code_word (code_of P) a) e ∙ has.here k (let same = are.count in omega (arith, lt, count, same)))))
 
     pub blocks_at : (w : ℕ) → IsBlockOrOff s w
     blocks_at w = by (is_code_word (code_of P) w) refl
@@ -165,11 +170,11 @@ module _ (reading : ℕ → Option Instr) (ops : List ℕ → Option Fetched) (P
         by : (b : Bool) → is_code_word (code_of P) w ≡ b → IsBlockOrOff s w
         by true on =
             let k = has.only w on in
-            inl (subst (Begins s) (sym k.2) (begins k.0 k.1))
+            inl (subst (Begins s) (sym k.2) (begins k.0 (let same = are.count in let lt = k.1 in omega (arith, lt, same))))
         by false off = inr (off_code w off, to_hold w off)
 
 pub blocks_stand : BlocksStand
-blocks_stand reading ops P Q first entry words area table reads_words reads_ops has built carried w = blocks_at reading ops P Q first entry words area table reads_ops carried reads_words has built w
+blocks_stand reading ops P Q first entry words decoded area table reads_words reads_ops has are carried w = blocks_at reading ops P Q first entry decoded area table reads_ops carried reads_words words has are w
 
 pub hold_stands : HoldStands
-hold_stands reading ops P Q first entry words area table reads_ops carried = hold_jumps reading ops P Q first entry words area table reads_ops carried
+hold_stands reading ops P Q first entry decoded area table reads_ops carried = hold_jumps reading ops P Q first entry decoded area table reads_ops carried

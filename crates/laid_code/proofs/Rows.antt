@@ -13,13 +13,13 @@ use Rattle.symbolic_tiles.specs.Row.{window_of, DoWindow}
 use Rattle.symbolic_tiles.specs.Row.{WritesHeld}
 use Rattle.symbolic_tiles.specs.Flow.{FlowDoesWord}
 use Rattle.symbolic_tiles.specs.Straight.{IsStraight}
-use Rattle.code_layout.proofs.StraightTiles.{built_are_straight, tiles_do_rows, tiles_are_short}
-use Rattle.base_flow.proofs.Tiles.{built_have_tiles, flow_tiles_do_rows, flow_tiles_are_marked}
+use Rattle.code_layout.proofs.StraightTiles.{tiles_do_rows, tiles_are_short}
+use Rattle.code_layout.proofs.BuiltWords.{straight_word, has_tile}
+use Rattle.base_flow.proofs.Tiles.{flow_tiles_do_rows, flow_tiles_are_marked}
 use Rattle.symbolic_tiles.proofs.Straight.{rows_are_straight, accesses_are_inside}
 use Rattle.simulation.specs.Windows.{rows_of, IsQuiet}
 use Rattle.simulation.specs.Setting.{Setting, IsWordAt}
 use Rattle.simulation.specs.Plan.{IsTile, LeadsTo}
-use Rattle.code_layout.specs.Built.{IsBuilt}
 use Rattle.code_layout.specs.Places.{no_registers}
 use Rattle.code_layout.specs.Code.{word_ops, ops_at}
 use Rattle.laid_code.specs.Items.{AreMarked}
@@ -74,22 +74,23 @@ module _ (s : Setting) (writes_held : WritesHeld s.guest) (i : Instr) (word : Is
   pub straight_leads : (w : ℕ) → LeadsTo s w (i ∷ []) (λ g. behind w)
   straight_leads w g g' at e = subst (IsStraight (behind g.next)) (row_is g ∙ e) (rows_are_straight i s.guest g word.straight) ∙ ap behind at
 
--- each built instruction is the one or the other
+-- each instruction is the one or the other
 pub data Kind (i : Instr) : Type 0 where
   straight : IsStraightWord i → Kind i
   flowing : IsFlowingWord i → Kind i
 
-pub kind_of : (i : Instr) → IsBuilt i → IsLegal i → Kind i
-kind_of i (inl built) legal = straight (record {
-  straight = built_are_straight i built;
-  few = (tiles_are_short i no_registers legal built).0;
-  does = λ area. tiles_do_rows i legal built no_registers area is_map;
-})
-kind_of i (inr built) legal =
-    let has = built_have_tiles i no_registers built refl in
-    flowing (record {
-      flow = has.0;
+pub kind_of : (i : Instr) → IsLegal i → Kind i
+kind_of i legal = by_flow (is_flow i) refl
+  where
+    by_flow : (b : Bool) → is_flow i ≡ b → Kind i
+    by_flow false e = straight (record {
+      straight = e;
+      few = (tiles_are_short i no_registers legal (straight_word i e)).0;
+      does = λ area. tiles_do_rows i legal (straight_word i e) no_registers area is_map;
+    })
+    by_flow true e = flowing (record {
+      flow = e;
       few = λ at. let m = flow_tiles_are_marked i no_registers at in omega (arith, m.1);
       marked = λ at. as_marked (flow_tile i at no_registers) (flow_tiles_are_marked i no_registers at).0;
-      does = flow_tiles_do_rows i no_registers legal is_map has;
+      does = flow_tiles_do_rows i no_registers legal is_map (has_tile i e);
     })

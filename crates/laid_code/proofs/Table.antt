@@ -20,7 +20,7 @@ byte_at (x ∷ xs) (suc k) j lk lj =
     let e : 4 * suc k + j ≡ suc (suc (suc (suc (4 * k + j)))) = omega arith in
     ap (λ n. get_or (flat_map (little_bytes 4) (x ∷ xs)) n 0) e ∙ byte_at xs k j (omega arith) lj
 
-word_at : (image : ℕ → ℕ) (table : ℕ) (xs : List ℕ) → table + 4 * length xs ≤ 2 ^ 32 → ((i : ℕ) → i < 4 * length xs → image (table + i) ≡ get_or (flat_map (little_bytes 4) xs) i 0) →
+pub word_at : (image : ℕ → ℕ) (table : ℕ) (xs : List ℕ) → table + 4 * length xs ≤ 2 ^ 32 → ((i : ℕ) → i < 4 * length xs → image (table + i) ≡ get_or (flat_map (little_bytes 4) xs) i 0) →
     (k : ℕ) → k < length xs → slice_index xs k < 2 ^ 32 → load 4 (table + 4 * k) image ≡ slice_index xs k
 unfolding load
 word_at image table xs low bytes k lk w =
@@ -36,8 +36,8 @@ word_at image table xs low bytes k lk w =
     omega (arith, b0, b1, b2, b3, w)
 
 pub tables_stand : TablesStand
-tables_stand reading ops P Q first entry words area table reads has carried t =
-    let count : length table ≡ length words = carried.count in
+tables_stand reading ops P Q first entry words decoded area table reads has are carried t =
+    let count : length table ≡ length words = carried.count ∙ are.count in
     let code_low = has.low in
     record {
       aligned = has.aligned;
@@ -48,7 +48,7 @@ tables_stand reading ops P Q first entry words area table reads has carried t =
       held = t.held;
       unwritable = t.unwritable;
       words = λ k lk.
-          word_at _ (area + 0x1000) table t.low t.bytes k lk (entry_low reading ops P Q first entry words area table reads carried k (omega (arith, lk, count)))
+          word_at _ (area + 0x1000) table t.low t.bytes k lk (entry_low reading ops P Q first entry decoded area table reads carried k (let same = are.count in omega (arith, lk, count, same)))
           ∙ sym (entry_at first table (code_start area) k lk);
       off = λ w lw aw out. entry_or_hold first table (code_start area) (λ d. d ≡ code_start area) w refl (λ k lk e. absurd (by_side k lk w e out));
     }

@@ -10,7 +10,7 @@ use Rattle.machines.specs.Guest.{guest_machine}
 use Rattle.machines.specs.Agreement.{without, narrow_machine}
 pub use Rattle.code_words.specs.Words.{HasWords}
 use Rattle.simulation.specs.Setting.{Setting}
-use Rattle.code_layout.specs.Built.{IsBuiltWord}
+pub use Rattle.code_layout.specs.Decoded.{AreDecodedAs}
 use Rattle.code_layout.specs.Places.{no_registers, entry_of}
 use Rattle.code_layout.specs.Layout.{IsCodeFor}
 
@@ -42,12 +42,8 @@ setting_of words ops P Q first area table = record {
   live = λ w x. true;
 }
 
--- translation is built for each of the words
-abbrev pub AreBuilt : List ℕ → Type 0
-AreBuilt words = (k : ℕ) → k < length words → IsBuiltWord (slice_index words k)
-
 -- the code of Q is that of these words, by this table, and lies below 2^32
-pub record HasCodeFor (Q : Program) (first entry : ℕ) (words : List ℕ) (area : ℕ) (table : List ℕ) : Type 0 where
+pub record HasCodeFor (Q : Program) (first entry : ℕ) (words : List (Option Instr)) (area : ℕ) (table : List ℕ) : Type 0 where
   pub at : (code_of Q).at ≡ code_start area
   pub low : code_start area + length (code_of Q).bytes < 2 ^ 32
   pub count : length table ≡ length words

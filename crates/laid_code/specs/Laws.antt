@@ -15,7 +15,7 @@ use Rattle.simulation.specs.Plan.{PlanStep, EdgeAt, LeapAt, BlockAt, Begins}
 use Rattle.code_layout.specs.Places.{Moves}
 use Rattle.code_layout.specs.Code.{IsLaid, items_bytes}
 use Rattle.laid_code.specs.Bytes.{HasBytes, RunsCode}
-use Rattle.laid_code.specs.Instance.{code_start, setting_of, HasWords, AreBuilt, HasCodeFor, HasTableOf}
+use Rattle.laid_code.specs.Instance.{code_start, setting_of, HasWords, AreDecodedAs, HasCodeFor, HasTableOf}
 use Rattle.laid_code.specs.Items.{AreMarked, labels_of, edges_of, leaps_of, places_of, AreSwitches, ArePlaced}
 use Rattle.laid_code.specs.Plans.{plan_items, last_map, AreRight}
 
@@ -55,17 +55,17 @@ IsBlockOrOff s w = Begins s w ⊎ (IsOffCode s w × (s.target w ≡ s.hold))
 -- The code of the written program carries the block of each code word of P.
 abbrev pub BlocksStand : Type 0
 BlocksStand =
-    (reading : ℕ → Option Instr) (ops : List ℕ → Option Fetched) (P Q : Program) (first entry : ℕ) (words : List ℕ) (area : ℕ) (table : List ℕ) →
-    ReadsWords reading → ReadsOps ops → HasWords P first words → AreBuilt words → HasCodeFor Q first entry words area table → (w : ℕ) → IsBlockOrOff (setting_of reading ops P Q first area table) w
+    (reading : ℕ → Option Instr) (ops : List ℕ → Option Fetched) (P Q : Program) (first entry : ℕ) (words : List ℕ) (decoded : List (Option Instr)) (area : ℕ) (table : List ℕ) →
+    ReadsWords reading → ReadsOps ops → HasWords P first words → AreDecodedAs words decoded → HasCodeFor Q first entry decoded area table → (w : ℕ) → IsBlockOrOff (setting_of reading ops P Q first area table) w
 
 -- `hold` is a jump to itself.
 abbrev pub HoldStands : Type 0
 HoldStands =
-    (reading : ℕ → Option Instr) (ops : List ℕ → Option Fetched) (P Q : Program) (first entry : ℕ) (words : List ℕ) (area : ℕ) (table : List ℕ) →
-    ReadsOps ops → HasCodeFor Q first entry words area table → JumpsTo (setting_of reading ops P Q first area table) (code_start area) (code_start area)
+    (reading : ℕ → Option Instr) (ops : List ℕ → Option Fetched) (P Q : Program) (first entry : ℕ) (decoded : List (Option Instr)) (area : ℕ) (table : List ℕ) →
+    ReadsOps ops → HasCodeFor Q first entry decoded area table → JumpsTo (setting_of reading ops P Q first area table) (code_start area) (code_start area)
 
 -- The table leads to the block of each code word, and elsewhere nothing but to `hold`.
 abbrev pub TablesStand : Type 0
 TablesStand =
-    (reading : ℕ → Option Instr) (ops : List ℕ → Option Fetched) (P Q : Program) (first entry : ℕ) (words : List ℕ) (area : ℕ) (table : List ℕ) →
-    ReadsOps ops → HasWords P first words → HasCodeFor Q first entry words area table → HasTableOf (setting_of reading ops P Q first area table) table → HasTable (setting_of reading ops P Q first area table)
+    (reading : ℕ → Option Instr) (ops : List ℕ → Option Fetched) (P Q : Program) (first entry : ℕ) (words : List ℕ) (decoded : List (Option Instr)) (area : ℕ) (table : List ℕ) →
+    ReadsOps ops → HasWords P first words → AreDecodedAs words decoded → HasCodeFor Q first entry decoded area table → HasTableOf (setting_of reading ops P Q first area table) table → HasTable (setting_of reading ops P Q first area table)

@@ -11,12 +11,12 @@ use Rattle.machines.specs.Memory.{load}
 use Rattle.machines.specs.Guest.{Guest}
 use Rattle.machines.specs.Host.{Choice, Core, Place, Register, Memory, value_at, put_at, reads, puts, bind}
 use Rattle.machines.specs.Host.{goes_to as host_goes_to}
-use Rattle.machines.specs.Representation.{in_slot, location_place}
+use Rattle.machines.specs.Representation.{in_slot, location_place, IsHomePage}
 use Rattle.symbolic_tiles.specs.Perform.{core_behind, perform}
 use Rattle.symbolic_tiles.specs.Row.{GoesThrough, IsCore}
 use Rattle.simulation.specs.Setting.{Setting, Stood}
 use Rattle.simulation.specs.Plan.{IsMove}
-use Rattle.simulation.specs.Relation.{IsTranslation, MovesKeep}
+use Rattle.simulation.specs.Relation.{MovesKeep}
 use Rattle.symbolic_tiles.proofs.Memory.{update_keeps, store_other, store_byte, load_word}
 use Rattle.symbolic_tiles.proofs.Places.{home_within, put_same, put_other, place_apart, place_fits, place_bytes, read_place, write_place}
 
@@ -29,7 +29,7 @@ word_size x lx = grind (arith, nat_tests)
 word_range : (x : ℕ) → x < 32 → location_range x ≡ 2 ^ 32
 word_range x lx = grind (arith, nat_tests)
 
-module _ (s : Setting) (t : IsTranslation s) (from to : Map) (n : ℕ) (is_map : IsMap to) (ln : n < 32) (others : (x : ℕ) → x ≢ n → slot_of to x ≡ slot_of from x) where
+module _ (s : Setting) (page : IsHomePage s.area s.guest s.host) (from to : Map) (n : ℕ) (is_map : IsMap to) (ln : n < 32) (others : (x : ℕ) → x ≢ n → slot_of to x ≡ slot_of from x) where
   abbrev new_place : Place
   new_place = location_place to s.area n
 
@@ -42,7 +42,7 @@ module _ (s : Setting) (t : IsTranslation s) (from to : Map) (n : ℕ) (is_map :
     is_map = is_map;
     represents = record {
       locs = λ x lx alive. ⊎_elim (λ e. here x e ∙ st.represents.locs n (omega arith) (subst (λ z. s.live g.next z ≡ true) e alive) ∙ ap g.locs (sym e)) (λ ne. there x lx ne ∙ st.represents.locs x lx alive) (is_same x n);
-      bytes = λ a held. place_bytes to s.area t.page.low n (value core) a core (omega arith) (t.page.apart a held) ∙ st.represents.bytes a held;
+      bytes = λ a held. place_bytes to s.area page.low n (value core) a core (omega arith) (page.apart a held) ∙ st.represents.bytes a held;
     };
     in_range = λ x lx. ⊎_elim (λ e. subst (λ z. value_at (put_at core new_place (value core)) (location_place to s.area z) < location_range z) (sym e) (subst (λ v. v < location_range n) (sym (here n refl)) (st.in_range n (omega arith)))) (λ ne. subst (λ v. v < location_range x) (sym (there x lx ne)) (st.in_range x lx)) (is_same x n);
     is_core = record { words = λ r. by_regs r (slot_of to n); bytes = λ a. by_bytes a (slot_of to n) };
@@ -61,11 +61,11 @@ module _ (s : Setting) (t : IsTranslation s) (from to : Map) (n : ℕ) (is_map :
       by_bytes a (Some k) = st.is_core.bytes a
 
       here : (x : ℕ) → x ≡ n → value_at (put_at core new_place (value core)) (location_place to s.area x) ≡ value core
-      here x e = ap (λ z. value_at (put_at core new_place (value core)) (location_place to s.area z)) e ∙ put_same core new_place (value core) (place_fits to s.area t.page.low n (value core) (omega arith) (subst (λ k. value core < 256 ^ k) (sym (word_size n ln)) word))
+      here x e = ap (λ z. value_at (put_at core new_place (value core)) (location_place to s.area z)) e ∙ put_same core new_place (value core) (place_fits to s.area page.low n (value core) (omega arith) (subst (λ k. value core < 256 ^ k) (sym (word_size n ln)) word))
 
       there : (x : ℕ) → x < 46 → x ≢ n → value_at (put_at core new_place (value core)) (location_place to s.area x) ≡ value_at core (location_place from s.area x)
       there x lx ne =
-          put_other core new_place (location_place to s.area x) (value core) (place_apart to s.area t.page.low x n lx (omega arith) ne)
+          put_other core new_place (location_place to s.area x) (value core) (place_apart to s.area page.low x n lx (omega arith) ne)
           ∙ ap (λ o. value_at core (in_slot o (Memory (home_size x) (s.area + home x)))) (others x ne)
 
       clash : (b : Bool) → b ≡ true → b ≡ false → ⊥
@@ -76,9 +76,9 @@ module _ (s : Setting) (t : IsTranslation s) (from to : Map) (n : ℕ) (is_map :
       kept a no_write (Some r) = refl
       kept a no_write None = store_other (home_size n) (s.area + home n) (value core) core.bytes a (λ i li e.
           let w = home_within n i (omega arith) li in
-          let low = t.page.low in
+          let low = page.low in
           let q : a ≡ s.area + (home n + i) = omega (arith, e, w, low) in
-          clash (s.host.writable a) (ap s.host.writable q ∙ t.page.writable (home n + i) (omega (arith, w))) no_write)
+          clash (s.host.writable a) (ap s.host.writable q ∙ page.writable (home n + i) (omega (arith, w))) no_write)
 
   -- its home, as a place
   at_home : (m : Map) → slot_of m n ≡ None → location_place m s.area n ≡ Memory 4 (s.area + home n)
@@ -94,7 +94,7 @@ module _ (s : Setting) (t : IsTranslation s) (from to : Map) (n : ℕ) (is_map :
     moves = λ g core choices at st.
         let v : core.regs r ≡ value core = sym (ap (value_at core) (at_register from r ef)) in
         let e : puts s.host core (Memory 4 (s.area + home n)) (core.regs r) ≡ Some (put_at core new_place (value core)) =
-        ap (puts s.host core (Memory 4 (s.area + home n))) v ∙ ap (λ p. puts s.host core p (value core)) (sym (at_home to et)) ∙ write_place to s.area s.guest s.host t.page n (value core) core (omega arith) in
+        ap (puts s.host core (Memory 4 (s.area + home n))) v ∙ ap (λ p. puts s.host core p (value core)) (sym (at_home to et)) ∙ write_place to s.area s.guest s.host page n (value core) core (omega arith) in
         subst (λ o. GoesThrough (core_behind (perform s.host []) (host_goes_to s.host 0 (record { core = core; eip = 0; choices = choices }) o)) (Stood s to g)) (sym e) (moved g core st);
   }
 
@@ -103,7 +103,7 @@ module _ (s : Setting) (t : IsTranslation s) (from to : Map) (n : ℕ) (is_map :
   takes next r ef et = record {
     short = omega arith;
     moves = λ g core choices at st.
-        let e : reads s.host core (Memory 4 (s.area + home n)) ≡ Some (value core) = ap (reads s.host core) (sym (at_home from ef)) ∙ read_place from s.area s.guest s.host t.page n core (omega arith) in
+        let e : reads s.host core (Memory 4 (s.area + home n)) ≡ Some (value core) = ap (reads s.host core) (sym (at_home from ef)) ∙ read_place from s.area s.guest s.host page n core (omega arith) in
         let p : put_at core new_place (value core) ≡ put_at core (Register r) (value core) = ap (λ q. put_at core q (value core)) (at_register to r et) in
         let c : Choice = record { value = 0; flags = 0 } in
         subst (λ o. GoesThrough (core_behind (perform s.host []) (host_goes_to s.host 0 (record { core = core; eip = 0; choices = choices }) (bind o (λ v. Some (put_at core (Register r) v))))) (Stood s to g)) (sym e) (subst (Stood s to g) p (moved g core st));
@@ -136,4 +136,4 @@ module _ (s : Setting) (t : IsTranslation s) (from to : Map) (n : ℕ) (is_map :
       any_word core is None = subst (λ k. load k (s.area + home n) core.bytes < 2 ^ 32) (sym (word_size n ln)) (load_word (s.area + home n) core.bytes (λ i li. is.bytes _))
 
 pub moves_keep : MovesKeep
-moves_keep s t from to n is_map ln others next = (drops s t from to n is_map ln others next, takes s t from to n is_map ln others next, stays_dead s t from to n is_map ln others next)
+moves_keep s page from to n is_map ln others next = (drops s page from to n is_map ln others next, takes s page from to n is_map ln others next, stays_dead s page from to n is_map ln others next)

@@ -72,7 +72,7 @@ module _ (s : Setting) where
 -- move from one to the other; where it is dead no op is needed.
 abbrev pub MovesKeep : Type 0
 MovesKeep =
-    (s : Setting) → IsTranslation s → (from to : Map) (n : ℕ) → IsMap to → n < 32 → ((x : ℕ) → x ≢ n → slot_of to x ≡ slot_of from x) → (next : ℕ) →
+    (s : Setting) → IsHomePage s.area s.guest s.host → (from to : Map) (n : ℕ) → IsMap to → n < 32 → ((x : ℕ) → x ≢ n → slot_of to x ≡ slot_of from x) → (next : ℕ) →
     ((r : ℕ) → slot_of from n ≡ Some r → slot_of to n ≡ None → IsMove s next from to (MovTo (Abs (home n)) r ∷ []))
     × ((r : ℕ) → slot_of from n ≡ None → slot_of to n ≡ Some r → IsMove s next from to (MovFrom r (Abs (home n)) ∷ []))
     × (s.live next n ≡ false → IsMove s next from to [])

@@ -1,5 +1,5 @@
 -- A run of a file that nothing hinders has the cause that the file's bytes are due to have, or memory ran out.
-use Rattle.std.proofs.Common.{◌≡◌, ◌≢◌, ◌<◌, ◌≤◌, ◌⊎◌, inl, inr, ℕ, List, [], ◌∷◌, length, drop, Option, refl, sym, ap, ◌∙◌, subst, arith}
+use Rattle.std.proofs.Common.{◌≡◌, ◌≢◌, ◌≤◌, ◌⊎◌, inl, inr, ℕ, List, [], ◌∷◌, length, drop, Option, Some, refl, sym, ap, ◌∙◌, subst, arith}
 use Rattle.std.proofs.lemmas.Fmt.{decimal_injective}
 use Rattle.std.proofs.lemmas.Grind.{common_steps}
 use Rattle.space.specs.declared.program.Kind.{Kind}
@@ -15,7 +15,7 @@ use Rattle.machines.specs.Guest.{guest_machine, guest_start}
 use Rattle.machines.specs.Host.{host_machine, host_start}
 use Rattle.runner.specs.Answers.{Bytes, HasWholeRun}
 use Rattle.runner.specs.Attending.{Streams, Told, Attended}
-use Rattle.runner.proofs.Whole.{one_whole_run, whole_if_calm}
+use Rattle.runner.proofs.Whole.{whole_if_calm}
 use Rattle.trans_tool.specs.Whole.{IsLonger}
 use Rattle.trans_tool.specs.Seen.{Outside}
 use Rattle.trans_tool.specs.Listing.{kind_of, IsFile}
@@ -26,7 +26,7 @@ use Rattle.trans_tool.specs.Due.{IsDueEnd, IsDueRun, IsUnhinderedRun}
 use Rattle.trans_tool.specs.Top.{Comes}
 use Rattle.trans_tool.specs.declared.cause.Cause.{Cause}
 use Rattle.trans_tool.specs.declared.cause.Cause.TheVariants as cause
-use Rattle.trans_tool.proofs.Completing.{OneProgram, OneFault, some_same, no_run, no_list, long_same, fault_same, no_fault}
+use Rattle.trans_tool.proofs.Completing.{some_same, no_run, no_list, same_told}
 
 -- the option names one number, and is no name of a file
 one_option : (m n : ℕ) → m ≤ 1000000000000 → n ≤ 1000000000000 → steps_option m ≡ steps_option n → m ≡ n
@@ -68,91 +68,44 @@ pub record IsCalm (old new : Streams) : Type 0 where
 whole_run : {S : Type 0} (step : S → _) (start : S) (steps : ℕ) (old new : Streams) (before : Bytes) (e : End) → IsCalm old new → Attended step start steps old new before e → HasWholeRun step start steps before e
 whole_run step start steps old new before e calm a = record { transfers = a.transfers; after = a.after; moved = whole_if_calm old new a.transfers a.counted calm.input calm.output calm.errors; runs = a.runs }
 
-one_end : (kind : Kind) (words : ℕ → Option Instr) (ops : List ℕ → Option Fetched) (p : Program) (steps : ℕ) (old new : Streams) (before : Bytes) (e f : End) → IsCalm old new → AttendedOn kind words ops p steps old new before e → RunsWholeOn kind words ops p steps before f → e ≡ f
-one_end PowerPc words ops p steps old new before e f calm a w = one_whole_run (guest_machine words p) steps (guest_start p) before e f (whole_run _ _ steps old new before e calm a) w
-one_end Ia32 words ops p steps old new before e f calm a w = one_whole_run (host_machine ops p) steps (host_start p []) before e f (whole_run _ _ steps old new before e calm a) w
+-- the run of a program whose calls are all answered whole, where no count rose
+runs_whole : (kind : Kind) (words : ℕ → Option Instr) (ops : List ℕ → Option Fetched) (p : Program) (steps : ℕ) (old new : Streams) (before : Bytes) (e : End) → IsCalm old new → AttendedOn kind words ops p steps old new before e → RunsWholeOn kind words ops p steps before e
+runs_whole PowerPc words ops p steps old new before e calm a = whole_run (guest_machine words p) (guest_start p) steps old new before e calm a
+runs_whole Ia32 words ops p steps old new before e calm a = whole_run (host_machine ops p) (host_start p []) steps old new before e calm a
 
--- what a due cause says
-data View (words : ℕ → Option Instr) (ops : List ℕ → Option Fetched) (bytes : List ℕ) (steps : ℕ) (before : Bytes) (c : Cause) : Type 0 where
-  long : (file : ℕ) → c ≡ cause.TooLong file → file ≡ 0 → 0x10000000 < length bytes → View words ops bytes steps before c
-  bad : (rule : _) (offset : ℕ) → c ≡ cause.BadElf rule offset → length bytes ≤ 0x10000000 → IsFirstFault (kind_of bytes) bytes rule offset → View words ops bytes steps before c
-  ends : IsDueEnd words ops bytes steps before c → View words ops bytes steps before c
-
-view : (words : ℕ → Option Instr) (ops : List ℕ → Option Fetched) (bytes : List ℕ) (steps : ℕ) (before : Bytes) (c : Cause) → IsDueRun words ops bytes steps before c → View words ops bytes steps before c
-view words ops bytes steps before (cause.TooLong file) d = long file refl d.0 d.1
-view words ops bytes steps before (cause.BadElf rule offset) d = bad rule offset refl d.0 d.1
-view words ops bytes steps before cause.Done d = ends d
-view words ops bytes steps before (cause.GuestExit n) d = ends d
-view words ops bytes steps before cause.Usage d = ends d
-view words ops bytes steps before (cause.FileRead f) d = ends d
-view words ops bytes steps before (cause.FileWrite f) d = ends d
-view words ops bytes steps before cause.OutFault d = ends d
-view words ops bytes steps before cause.ErrFault d = ends d
-view words ops bytes steps before cause.Memory d = ends d
-view words ops bytes steps before cause.StepsSpent d = ends d
-view words ops bytes steps before cause.Trap d = ends d
-view words ops bytes steps before cause.Illegal d = ends d
-view words ops bytes steps before cause.Outside d = ends d
-view words ops bytes steps before cause.DivideFault d = ends d
-view words ops bytes steps before (cause.Unbuilt a) d = ends d
-
-module _ (one_program : OneProgram) (one_fault : OneFault) (bytes : List ℕ) (words_read : ℕ → Option Instr) (ops_read : List ℕ → Option Fetched) (reads : ReadsWords words_read) (reads' : ReadsOps ops_read) (words : List (List ℕ)) (o : Outside) (old new after : Streams) (file : List ℕ) (steps : ℕ) (before : Bytes) (told : Told old before)
-    (free : IsUnhinderedRun words o old new file steps bytes) (calm : IsCalm old after) (due : Cause) (is_due : IsDueRun words_read ops_read bytes steps before due) where
+module _ (bytes : List ℕ) (words_read : ℕ → Option Instr) (ops_read : List ℕ → Option Fetched) (reads : ReadsWords words_read) (reads' : ReadsOps ops_read) (words : List (List ℕ)) (o : Outside) (old new after : Streams) (file : List ℕ) (steps : ℕ) (before : Bytes) (told : Told old before)
+    (free : IsUnhinderedRun words o old new file steps bytes) (calm : IsCalm old after) where
   file_is : (held : List ℕ) → IsFile o file held → held ≡ bytes
   file_is held x = some_same held bytes (sym (x.held free.telling) ∙ free.held)
 
-  ran : (end : End) → RanTo o file steps old after end → cause_of end ≡ due
-  ran end r = by (view words_read ops_read bytes steps before due is_due)
-    where
-      same : r.loaded.bytes ≡ bytes
-      same = file_is r.loaded.bytes r.loaded.held
+  ran : (end : End) (c : Cause) → c ≡ cause_of end → RanTo o file steps old after end → IsDueEnd words_read ops_read bytes steps before c
+  ran end c is r =
+      let same = file_is r.loaded.bytes r.loaded.held in
+      record {
+        within = subst (λ (b : List ℕ). length b ≤ 0x10000000) same r.loaded.held.within;
+        program = r.program;
+        loads = subst (λ (b : List ℕ). IsProgramOf (kind_of b) b r.program) same r.loaded.loads;
+        end = end;
+        runs = runs_whole r.program.kind words_read ops_read r.program steps old after before end calm (r.ran words_read ops_read before reads reads' told);
+        is = is;
+      }
 
-      within : length bytes ≤ 0x10000000
-      within = subst (λ (b : List ℕ). length b ≤ 0x10000000) same r.loaded.held.within
-
-      loads : IsProgramOf (kind_of bytes) bytes r.program
-      loads = subst (λ (b : List ℕ). IsProgramOf (kind_of b) b r.program) same r.loaded.loads
-
-      by : View words_read ops_read bytes steps before due → cause_of end ≡ due
-      by (long f is zero lt) = absurd (omega (arith, lt, within))
-      by (bad rule offset is le fault) = absurd (no_fault (kind_of bytes) bytes r.program rule offset loads fault)
-      by (ends d) =
-          let one = one_program (kind_of bytes) bytes d.program r.program d.loads loads in
-          let runs : RunsWholeOn r.program.kind words_read ops_read r.program steps before d.end = subst (λ (p : Program). RunsWholeOn p.kind words_read ops_read p steps before d.end) one d.runs in
-          ap cause_of (one_end r.program.kind words_read ops_read r.program steps old after before end d.end calm (r.ran words_read ops_read before reads reads' told) runs) ∙ sym d.is
-
-  too_long : (n : ℕ) → n ≡ 0 → 0x10000000 < length bytes → cause.TooLong n ≡ due
-  too_long n zero lt = by (view words_read ops_read bytes steps before due is_due)
-    where
-      by : View words_read ops_read bytes steps before due → cause.TooLong n ≡ due
-      by (long f is none l) = long_same n f zero none ∙ sym is
-      by (bad rule offset is le fault) = absurd (omega (arith, lt, le))
-      by (ends d) = let w = d.within in absurd (omega (arith, lt, w))
-
-  refused : (rule : _) (offset : ℕ) → length bytes ≤ 0x10000000 → IsFirstFault (kind_of bytes) bytes rule offset → cause.BadElf rule offset ≡ due
-  refused rule offset le fault = by (view words_read ops_read bytes steps before due is_due)
-    where
-      by : View words_read ops_read bytes steps before due → cause.BadElf rule offset ≡ due
-      by (long f is none lt) = absurd (omega (arith, lt, le))
-      by (bad r at is l f) = fault_same rule r offset at (one_fault (kind_of bytes) bytes rule r offset at fault f) ∙ sym is
-      by (ends d) = absurd (no_fault (kind_of bytes) bytes d.program rule offset d.loads fault)
-
-  abbrev IsDueOr : Cause → Type 0
-  IsDueOr c = (c ≡ due) ⊎ (c ≡ cause.Memory)
+  abbrev pub IsDueOr : Cause → Type 0
+  IsDueOr c = IsDueRun words_read ops_read bytes steps before c ⊎ (c ≡ cause.Memory)
 
   ended : (c : Cause) → EndsRun o file steps old after c → IsDueOr c
   ended (cause.FileRead n) h = absurd (free.read h.1)
-  ended (cause.TooLong n) h = inl (too_long n h.0 (subst (IsLonger 0x10000000) free.held (h.1 free.telling)))
+  ended (cause.TooLong n) h = let long : IsLonger 0x10000000 (Some bytes) = subst (IsLonger 0x10000000) free.held (h.1 free.telling) in inl (h.0, long)
   ended (cause.BadElf rule offset) h =
       let x = h.0 in
       let same = file_is x.bytes x.held in
-      inl (refused rule offset (subst (λ (b : List ℕ). length b ≤ 0x10000000) same x.held.within) (subst (λ (b : List ℕ). IsFirstFault (kind_of b) b rule offset) same x.fault))
-  ended (cause.GuestExit n) h = inl (ran (ending.Exit n) h)
-  ended cause.StepsSpent h = inl (ran ending.Running h)
-  ended cause.Trap h = inl (ran ending.Trap h)
-  ended cause.Illegal h = inl (ran ending.Illegal h)
-  ended cause.Outside h = inl (ran ending.Outside h)
-  ended cause.DivideFault h = inl (ran ending.DivideFault h)
+      inl (subst (λ (b : List ℕ). length b ≤ 0x10000000) same x.held.within, subst (λ (b : List ℕ). IsFirstFault (kind_of b) b rule offset) same x.fault)
+  ended (cause.GuestExit n) h = inl (ran (ending.Exit n) (cause.GuestExit n) refl h)
+  ended cause.StepsSpent h = inl (ran ending.Running cause.StepsSpent refl h)
+  ended cause.Trap h = inl (ran ending.Trap cause.Trap refl h)
+  ended cause.Illegal h = inl (ran ending.Illegal cause.Illegal refl h)
+  ended cause.Outside h = inl (ran ending.Outside cause.Outside refl h)
+  ended cause.DivideFault h = inl (ran ending.DivideFault cause.DivideFault refl h)
   ended cause.Memory h = inr refl
   ended cause.Done h = absurd h
   ended cause.Usage h = absurd h
@@ -185,27 +138,29 @@ usage_comes words o old new c usage (inr (inr (inr h))) = absurd (usage.no_run h
 
 -- what is told then
 pub usage_told : (c told : Cause) (shown shown' : Option (List ℕ)) (faults faults' : ℕ) → c ≡ cause.Usage → IsTold c told shown shown' faults faults' ⊎ ((c ≢ cause.Usage) × IsTold cause.Memory told shown shown' faults faults') → (told ≡ cause.Usage) ⊎ (told ≡ cause.ErrFault)
-usage_told c told shown shown' faults faults' is (inl (inl line)) = inl (line.0 ∙ is)
-usage_told c told shown shown' faults faults' is (inl (inr fault)) = inr fault.0
+usage_told c told shown shown' faults faults' is (inl (inl line)) = inl (line.1 ∙ is)
+usage_told c told shown shown' faults faults' is (inl (inr (inl line))) = inl (line.1 ∙ is)
+usage_told c told shown shown' faults faults' is (inl (inr (inr fault))) = inr fault.1
 usage_told c told shown shown' faults faults' is (inr h) = absurd (h.0 is)
+
+failed : (c told : Cause) (shown shown' : Option (List ℕ)) (faults faults' : ℕ) → c ≢ cause.ErrFault → IsTold c told shown shown' faults faults' → told ≡ cause.ErrFault → Rose faults faults'
+failed c told shown shown' faults faults' apart (inl line) is = absurd (apart (sym line.1 ∙ is))
+failed c told shown shown' faults faults' apart (inr (inl line)) is = absurd (apart (sym line.1 ∙ is))
+failed c told shown shown' faults faults' apart (inr (inr fault)) is = fault.2
 
 -- ErrFault is told only where the errors failed
 pub fault_told : (c told : Cause) (shown shown' : Option (List ℕ)) (faults faults' : ℕ) → c ≢ cause.ErrFault → IsTold c told shown shown' faults faults' ⊎ ((c ≢ cause.Usage) × IsTold cause.Memory told shown shown' faults faults') → told ≡ cause.ErrFault → Rose faults faults'
-fault_told c told shown shown' faults faults' apart (inl (inl line)) is = absurd (apart (sym line.0 ∙ is))
-fault_told c told shown shown' faults faults' apart (inl (inr fault)) is = fault.1
-fault_told c told shown shown' faults faults' apart (inr (h, inl line)) is = absurd (memory_apart (sym line.0 ∙ is))
-  where
-    memory_apart : cause.Memory ≡ cause.ErrFault → ⊥
-    memory_apart e = grind arith
-fault_told c told shown shown' faults faults' apart (inr (h, inr fault)) is = fault.1
+fault_told c told shown shown' faults faults' apart (inl line) is = failed c told shown shown' faults faults' apart line is
+fault_told c told shown shown' faults faults' apart (inr (h, line)) is = failed cause.Memory told shown shown' faults faults' (λ e. cc) line is
 
 pub rose_from : (a b c : ℕ) → a ≤ b → Rose b c → Rose a c
 rose_from a b c le rose = omega (arith, le, rose)
 
 -- the cause that came, or want of memory, is told where the errors don't fail
-pub due_told : (c told due : Cause) (shown shown' : Option (List ℕ)) (faults faults' : ℕ) → (c ≡ due) ⊎ (c ≡ cause.Memory) → IsTold c told shown shown' faults faults' ⊎ ((c ≢ cause.Usage) × IsTold cause.Memory told shown shown' faults faults') → (Rose faults faults' → ⊥) → (told ≡ due) ⊎ (told ≡ cause.Memory)
-due_told c told due shown shown' faults faults' (inl is) (inl (inl line)) calm = inl (line.0 ∙ is)
-due_told c told due shown shown' faults faults' (inr is) (inl (inl line)) calm = inr (line.0 ∙ is)
-due_told c told due shown shown' faults faults' came (inl (inr fault)) calm = absurd (calm fault.1)
-due_told c told due shown shown' faults faults' came (inr (h, inl line)) calm = inr line.0
-due_told c told due shown shown' faults faults' came (inr (h, inr fault)) calm = absurd (calm fault.1)
+pub due_told : (P : Cause → Type 0) (c told : Cause) (shown shown' : Option (List ℕ)) (faults faults' : ℕ) → P c ⊎ (c ≡ cause.Memory) → IsTold c told shown shown' faults faults' ⊎ ((c ≢ cause.Usage) × IsTold cause.Memory told shown shown' faults faults') → (Rose faults faults' → ⊥) → P told ⊎ (told ≡ cause.Memory)
+due_told P c told shown shown' faults faults' came (inl (inl line)) calm = same_told P c told line.1 came
+due_told P c told shown shown' faults faults' came (inl (inr (inl line))) calm = same_told P c told line.1 came
+due_told P c told shown shown' faults faults' came (inl (inr (inr fault))) calm = absurd (calm fault.2)
+due_told P c told shown shown' faults faults' came (inr (h, inl line)) calm = inr line.1
+due_told P c told shown shown' faults faults' came (inr (h, inr (inl line))) calm = inr line.1
+due_told P c told shown shown' faults faults' came (inr (h, inr (inr fault))) calm = absurd (calm fault.2)

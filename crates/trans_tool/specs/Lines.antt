@@ -1,5 +1,5 @@
 -- The status number and the line of each cause, and what the sink of errors then shows.
-use Rattle.std.specs.Prelude.{◌≡◌, ◌⊎◌, ℕ, List, [], ◌++◌, ◌%◌, codes, decimal, Option}
+use Rattle.std.specs.Prelude.{◌≡◌, ◌≢◌, ◌⊎◌, ℕ, List, [], ◌++◌, ◌%◌, codes, decimal, Option}
 use Rattle.std.specs.Io.KnownBytes.{Appends}
 use Rattle.outside.specs.Causes.{Rose}
 use Rattle.outside.specs.Streams.{AppendsPrefix}
@@ -47,7 +47,10 @@ line_of Outside = codes "trans: outside access\n"
 line_of DivideFault = codes "trans: divide fault\n"
 line_of (Unbuilt address) = codes "trans: not built at " ++ decimal address ++ codes "\n"
 
--- the line of the cause was put whole, or a prefix of it and then the sink failed
+-- A cause without a line puts nothing, and the sink stands. The line of another was put whole, or a prefix of it and then
+-- the sink failed.
 abbrev pub IsTold : Cause → Cause → Option (List ℕ) → Option (List ℕ) → ℕ → ℕ → Type 0
 IsTold cause told old new faults faults' =
-    ((told ≡ cause) × Appends old new (line_of cause)) ⊎ ((told ≡ ErrFault) × Rose faults faults' × AppendsPrefix old new (line_of cause))
+    ((line_of cause ≡ []) × (told ≡ cause) × (new ≡ old) × (faults' ≡ faults))
+    ⊎ ((line_of cause ≢ []) × (told ≡ cause) × Appends old new (line_of cause))
+    ⊎ ((line_of cause ≢ []) × (told ≡ ErrFault) × Rose faults faults' × AppendsPrefix old new (line_of cause))

@@ -1,6 +1,6 @@
 //! Why a run ended: its status number and its line on the standard error.
 
-ghost use Rattle.std.specs.Prelude.{◌≡◌, ◌≢◌, ◌≤◌, ◌⊎◌, IfOk, string_bytes};
+ghost use Rattle.std.specs.Prelude.{◌≡◌, ◌≢◌, ◌≤◌, ◌⊎◌, [], IfOk, string_bytes};
 ghost use Rattle.outside.specs.Causes.{Rose};
 ghost use Rattle.trans_tool.specs.Lines.{code_of, refusal_text, line_of, IsTold};
 
@@ -126,7 +126,8 @@ pub fn report<E: Sink>(alloc: Global, errors: &mut E, cause: Cause) -> Cause
 }
 
 fn say<E: Sink>(errors: &mut E, cause: Cause, line: &[u8]) -> Cause
-    requires { line.now ≡ line_of cause }
+    requires line { line.now ≡ line_of cause }
+    requires some { line_of cause ≢ [] }
     ensures later { E.faults errors.old ≤ E.faults errors.new }
     ensures told { IsTold cause result (E.shown errors.old) (E.shown errors.new) (E.faults errors.old) (E.faults errors.new) }
 {

@@ -10,7 +10,6 @@ ghost use Rattle.ppc_isa.specs.declared.instr.Instr.{Instr};
 ghost use Rattle.trans_tool.specs.Seen.{seen_by};
 ghost use Rattle.trans_tool.specs.Top.{Comes, Runs};
 ghost use Rattle.trans_tool.specs.Due.{IsDue, IsDueListing, IsDueRun, IsUnhindered, IsUnhinderedListing, IsUnhinderedRun};
-ghost use Rattle.trans_tool.specs.declared.cause.Cause.{Cause as CauseOf};
 ghost use Rattle.trans_tool.specs.Words.{IsUsage, Spells, SpellsList, SpellsRun};
 
 use crate::cause::report;
@@ -19,7 +18,6 @@ use crate::run::run as run_file;
 use crate::translate::translate;
 use crate::words::{Command, parse};
 use crate::{Cause, Status};
-use elf_load::{one_fault, one_program};
 use outside::{Files, Sink, Source};
 use std::alloc::Global;
 
@@ -59,27 +57,26 @@ pub fn top<F: Files, I: Source, O: Sink, E: Sink>(
     ensures output_stands { ((name : List ℕ) → SpellsList (map string_bytes words.now) name → ⊥)
         → ((name : List ℕ) (steps : ℕ) → SpellsRun (map string_bytes words.now) name steps → ⊥) → output.new ≡ output.old }
 
-    // With no count risen the cause is the one that the file's bytes are due to have, Done among them, or memory ran out.
-    ensures due { (from to bytes : List ℕ) (cause : Cause) → IsUnhindered (map string_bytes words.now)
+    // With no count risen the cause is one that the file's bytes are due to have, Done among them, or memory ran out. No
+    // bytes are due to have two ([`one_due`]).
+    ensures due { (from to bytes : List ℕ) → IsUnhindered (map string_bytes words.now)
         (seen_by F.tells F.held F.read_faults F.replace_faults files.old files.new)
         (streams_by I.left I.faults O.shown O.faults E.shown E.faults input.old output.old errors.old)
         (streams_by I.left I.faults O.shown O.faults E.shown E.faults input.new output.new errors.new) from to bytes
-        → IsDue bytes cause → (result.cause ≡ cause) ⊎ (result.cause ≡ Cause.Memory) }
-    ensures due_listing { (name bytes : List ℕ) (cause : Cause) → IsUnhinderedListing (map string_bytes words.now)
+        → IsDue bytes result.cause ⊎ (result.cause ≡ Cause.Memory) }
+    ensures due_listing { (name bytes : List ℕ) → IsUnhinderedListing (map string_bytes words.now)
         (seen_by F.tells F.held F.read_faults F.replace_faults files.old files.new)
         (streams_by I.left I.faults O.shown O.faults E.shown E.faults input.old output.old errors.old)
         (streams_by I.left I.faults O.shown O.faults E.shown E.faults input.new output.new errors.new) name bytes
-        → IsDueListing bytes cause → (result.cause ≡ cause) ⊎ (result.cause ≡ Cause.Memory) }
-    ensures due_run { (name bytes : List ℕ) (steps : ℕ) (before : Bytes) (words_read : ℕ → Option Instr) (ops_read : List ℕ → Option Fetched) (cause : Cause)
+        → IsDueListing bytes result.cause ⊎ (result.cause ≡ Cause.Memory) }
+    ensures due_run { (name bytes : List ℕ) (steps : ℕ) (before : Bytes) (words_read : ℕ → Option Instr) (ops_read : List ℕ → Option Fetched)
         → ReadsWords words_read → ReadsOps ops_read → IsUnhinderedRun (map string_bytes words.now)
         (seen_by F.tells F.held F.read_faults F.replace_faults files.old files.new)
         (streams_by I.left I.faults O.shown O.faults E.shown E.faults input.old output.old errors.old)
         (streams_by I.left I.faults O.shown O.faults E.shown E.faults input.new output.new errors.new) name steps bytes
         → Told (streams_by I.left I.faults O.shown O.faults E.shown E.faults input.old output.old errors.old) before
-        → IsDueRun words_read ops_read bytes steps before cause → (result.cause ≡ cause) ⊎ (result.cause ≡ Cause.Memory) }
+        → IsDueRun words_read ops_read bytes steps before result.cause ⊎ (result.cause ≡ Cause.Memory) }
 {
-    one_program();
-    one_fault();
     let ended = run(alloc, words, files, input, output, errors);
     let cause = report(alloc, errors, ended);
     Status {

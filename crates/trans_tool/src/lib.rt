@@ -2,6 +2,7 @@
 #![tactic(auto)]
 
 mod cause;
+mod due;
 mod entry;
 mod list;
 mod loading;
@@ -11,6 +12,7 @@ mod whole;
 mod words;
 
 pub use cause::{Cause, Status};
+pub use due::one_due;
 pub use entry::top;
 
 #[cfg(test)]

@@ -1,4 +1,4 @@
-use Rattle.std.proofs.Common.{rules, ◌+◌, ◌∙◌, arith, false, get_or, ap}
+use Rattle.std.proofs.Common.{refl, rules, ◌+◌, ◌∙◌, arith, false, get_or, ap}
 use Rattle.std.proofs.lemmas.Grind.{common_steps}
 use Rattle.code_layout.specs.Places.{no_moves}
 use Rattle.code_layout.specs.Code.{items_length}
@@ -11,7 +11,7 @@ use Rattle.code_layout.proofs.layout.entries.Goals.{then-laid, else-laid}
 pub loop-laid-preserved : goal.loop-laid-preserved
 loop-laid-preserved c =
     let d : Laid = record { place = 0; begins = false; ends = false } in
-    let h = items-at c.args.source.now.first c.args.source.now.words.now (get_or c.args.order.now c.loop-laid.laid-index d) c.in_ok-word_items.field-0.items c.address_of-here.result c.address_of-here.ensures c.in_ok-word_items.ensures.items in
+    let h = items-at c.args.source.now.first c.args.source.now.words.now (get_or c.args.order.now c.loop-laid.laid-index d) _ c.in_ok-word_items.field-0.items c.address_of-here.result c.address_of-here.ensures refl c.in_ok-word_items.ensures.items in
     record {
       count = search rules;
       sought = λ k lt. sought-more c.args.source.now.first c.args.source.now.words.now (c.args.code + 5) c.loop-laid.at (c.loop-laid.at + c.length.result) c.loop-laid.laid-index c.args.order.now d c.in_ok-word_items.field-0.items c.loop-laid.entries.items c.if-laid.entries.items k c.loop-laid-test.true h
