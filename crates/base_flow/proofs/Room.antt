@@ -1,5 +1,5 @@
 -- The tiles of flow words have few bytes.
-use Rattle.std.proofs.Common.{◌≡◌, ℕ, ◌+◌, ◌≤◌, Bool, true, false, cond, not, ◌&&◌, eqb, List, [], ◌∷◌, arith}
+use Rattle.std.proofs.Common.{ℕ, ◌+◌, ◌≤◌, Bool, true, false, cond, not, ◌&&◌, eqb, List, [], ◌∷◌, arith}
 use Rattle.word_kit.specs.Bits.{bit_of}
 use Rattle.ppc_isa.specs.declared.instr.Instr.TheVariants as instr
 use Rattle.ppc_isa.specs.BranchRows.{bo_bit}
