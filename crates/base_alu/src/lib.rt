@@ -11,6 +11,8 @@ mod logic;
 mod recording;
 mod shifts;
 mod specials;
+#[cfg(test)]
+mod tests;
 mod tile;
 
 pub use laws::{

@@ -6,6 +6,8 @@ mod laws;
 mod loading;
 mod multiple;
 mod storing;
+#[cfg(test)]
+mod tests;
 mod tile;
 
 pub use laws::{

@@ -9,7 +9,7 @@ use Rattle.std.proofs.lemmas.Grind.{same_number_lists}
 use Rattle.space.specs.declared.program.Program.{Program}
 use Rattle.code_words.specs.Words.{HasWords, first_of}
 use Rattle.block_find.specs.Blocks.{IsIn, AreAllBlocks, IsWithin, AreBlocksOf, past, alone, singles_of}
-use Rattle.block_find.specs.declared.runs.Run.{Run}
+use Rattle.block_find.specs.declared.spans.Run.{Run}
 use Rattle.block_find.specs.declared.block.Blocks.{Blocks}
 
 pub runs_within : (words : List ℕ) (leads : List Bool) (runs : List Run) → AreAllBlocks words (IsIn leads) runs → All (IsWithin (length words)) runs

@@ -5,3 +5,5 @@ pub mod Marking
 pub mod SingleWords
 pub mod LeaderSets
 pub mod Gathering
+pub mod SingleRuns
+pub mod Standing

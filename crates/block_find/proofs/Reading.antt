@@ -3,7 +3,7 @@ use Rattle.std.proofs.Common.{◌≡◌, ◌≢◌, ℕ, ◌<◌, ◌↔◌, Boo
 use Rattle.std.specs.Prelude.{IsTrue, slice_index}
 use Rattle.ppc_isa.specs.declared.instr.Instr.{Instr}
 use Rattle.ppc_isa.specs.Legal.{IsWordOf}
-use Rattle.block_find.specs.FlowWords.{is_flow}
+use Rattle.row_laws.specs.FlowWords.{is_flow}
 use Rattle.block_find.specs.Branches.{IsFlowWord, legal, illegal, Names, address_of, named_address}
 
 pub same_of : (word : ℕ) (i j : Instr) → ((k : Instr) → IsWordOf word k → Some i ≡ Some k) → IsWordOf word j → i ≡ j

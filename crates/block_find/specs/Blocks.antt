@@ -1,11 +1,11 @@
--- Which code words begin a block, and how far a block runs. This project's own; "Basic Blocks" of compilers, of 64 words at
--- most. The code words stand one behind another from the address `first` on, and are named by their places, counted from 0.
+-- Which code words begin a block, and how far a block runs. Basic blocks of compilers, but of 64 words at most: this
+-- project's own. The code words stand one behind another from the address `first` on, and are named by their places, counted from 0.
 use Rattle.std.specs.Prelude.{◌≡◌, ℕ, ◌+◌, ◌-◌, ◌<◌, ◌≤◌, List, ◌↔◌, Bool, true, false, not, length, slice_index_or, filter, map, take, drop}
 use Rattle.std.specs.List.{range_with_len}
 use Rattle.block_find.specs.Branches.{IsFlow, Names, address_of}
 use Rattle.block_find.specs.declared.block.Block.{Block}
 use Rattle.block_find.specs.declared.block.Blocks.{Blocks}
-use Rattle.block_find.specs.declared.runs.Run.{Run}
+use Rattle.block_find.specs.declared.spans.Run.{Run}
 
 -- a block has at most this many words
 abbrev pub most : ℕ

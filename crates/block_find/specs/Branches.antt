@@ -5,7 +5,7 @@ use Rattle.ppc_isa.specs.declared.instr.Instr.{Instr}
 use Rattle.ppc_isa.specs.declared.instr.Instr.TheVariants.{Branch, BranchConditional}
 use Rattle.ppc_isa.specs.Legal.{IsWordOf}
 use Rattle.machines.specs.Guest.{branch_target}
-use Rattle.block_find.specs.FlowWords.{is_flow}
+use Rattle.row_laws.specs.FlowWords.{is_flow}
 
 -- a word with which a block ends: one of the flow words, or an illegal word
 pub data IsFlowWord (word : ℕ) : Type 0 where

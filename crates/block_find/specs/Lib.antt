@@ -1,4 +1,4 @@
-pub mod FlowWords
 pub mod Branches
 pub mod Blocks
 pub mod Marks
+pub mod Laws

@@ -1,4 +1,4 @@
--- Leaders as they are found: first those that words mark, and then those behind 64 words.
+-- Leaders as they are found: first those that words mark, and then those behind 64 words. No public clause cites these.
 use Rattle.std.specs.Prelude.{◌≡◌, ℕ, ◌+◌, ◌-◌, ◌<◌, ◌≤◌, List, ◌⊎◌, ◌↔◌, Bool, ◌||◌, ◌==◌, if◌then◌else◌, length}
 use Rattle.block_find.specs.Branches.{IsFlow, Names}
 use Rattle.block_find.specs.Blocks.{most, IsIn}

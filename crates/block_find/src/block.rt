@@ -32,6 +32,13 @@ impl Words {
     {
         self.words.as_slice()
     }
+
+    /// Takes no memory.
+    pub fn into_vec(self) -> Vec<u32>
+        ensures { result.items ≡ self }
+    {
+        self.words
+    }
 }
 
 /// Code words that run one behind another.
@@ -71,6 +78,13 @@ impl BlockList {
         ensures { result.now ≡ self.now }
     {
         self.blocks.as_slice()
+    }
+
+    /// Takes no memory.
+    pub fn into_vec(self) -> Vec<Block>
+        ensures { result.items ≡ self }
+    {
+        self.blocks
     }
 }
 

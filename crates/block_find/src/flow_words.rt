@@ -1,12 +1,12 @@
 //! The words with which a block ends.
 ghost use Rattle.std.specs.Prelude.{◌≡◌, ◌↔◌, IsTrue};
-ghost use Rattle.block_find.specs.FlowWords.{is_flow as is_flow_of};
+ghost use Rattle.row_laws.specs.FlowWords.{is_flow as is_flow_of};
 ghost use Rattle.block_find.specs.Branches.{IsFlowWord};
 
 use ppc_isa::{Instr, decode};
 
 /// Whether the instruction is a flow word: a branch, sc or a trap.
-pub fn is_flow(instr: &Instr) -> bool
+fn is_flow(instr: &Instr) -> bool
     ensures { result ≡ is_flow_of instr.now }
 {
     matches!(

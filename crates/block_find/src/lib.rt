@@ -8,16 +8,17 @@ mod code;
 mod flow_words;
 mod laws;
 mod program;
-mod runs;
+mod spans;
 
 pub use block::{Block, BlockList, Blocks, Words};
-pub use boundaries::leaders;
-pub use branches::{address_of, named_address, named_place};
+pub use branches::named_place;
 pub use code::Code;
-pub use flow_words::{is_flow, is_flow_word};
-pub use laws::{one_leader_set, one_list_of_words};
+pub use flow_words::is_flow_word;
+pub use laws::{
+    each_begins_one, each_is_block, leads_to_leaders, one_leader_set, one_list_of_words,
+};
 pub use program::blocks;
-pub use runs::{Run, leader_runs, single_runs};
+pub use spans::Run;
 
 #[cfg(test)]
 mod tests;

@@ -9,7 +9,7 @@ use crate::block::{Block, BlockList, Blocks, Words};
 use crate::boundaries::leaders;
 use crate::branches::address_of;
 use crate::code::Code;
-use crate::runs::{Run, leader_runs, single_runs};
+use crate::spans::{Run, leader_runs, single_runs};
 use code_words::{code_words, entry_place, first};
 use space::Program;
 use std::alloc::Global;

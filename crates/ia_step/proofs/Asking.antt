@@ -31,7 +31,7 @@ module _ (p : Program) (s : State) (h : Host) (k : CallKind) (next fd at count :
   -- a call whose buffer is held is made
   pub asked : true ≡ is_buffer p k at count
       → Leads p (Asked (record { kind = k; fd = fd; at = at; count = count })) (record s { eip = next; choices = drop 1 s.choices }) (asks_for p k next h)
-  asked held = rw (fd_in, at_in, count_in, sym held) (record { h = h; core = st.core; choices = ap (drop 1) st.choices; buffer = at_in; lists = refl; goes_on = λ answer. refl })
+  asked held = rw (fd_in, at_in, count_in, sym held) (record { h = h; core = st.core; choices = ap (drop 1) st.choices; buffer = at_in; count = count_in; lists = refl; goes_on = λ answer. refl })
 
   -- one whose buffer isn't held ends the run
   pub not_asked : false ≡ is_buffer p k at count → Leads p (Ended Outside) s (asks_for p k next h)

@@ -27,5 +27,6 @@ pub record IsAsking (p : Program) (s : State) (c : Call) (call : ListedCall) (ne
   pub core : IsCore p s.parts h.core
   pub choices : drop 1 h.choices ≡ s.choices
   pub buffer : h.core.regs ecx ≡ c.at
+  pub count : h.core.regs edx ≡ c.count
   pub lists : call ≡ listed_call c h.core.bytes
   pub goes_on : (answer : AnswerValue) → next answer ≡ after_given (rights_of p) s.eip (given call answer) h

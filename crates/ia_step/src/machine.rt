@@ -138,10 +138,12 @@ impl Machine {
         &self.state.parts.space
     }
 
-    /// The value of a register: 0 is eax, 1 ecx, 2 edx, 3 ebx, 6 esi, 7 edi.
+    /// The value of a register, which is that of the run where the machine goes on: 0 is eax, 1 ecx, 2 edx, 3 ebx, 6 esi,
+    /// 7 edi.
     pub fn reg(&self, r: u8) -> u32
         requires { IsReg r }
-        ensures { result ≡ slice_index self.now.state.parts.regs r }
+        ensures kept { result ≡ slice_index self.now.state.parts.regs r }
+        ensures run { (p : OfProgram) (h : Host) → Shows p self.now (Goes h) → result ≡ h.core.regs r }
     {
         self.state.parts.reg(r)
     }

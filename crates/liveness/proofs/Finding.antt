@@ -1,4 +1,4 @@
--- The sets begin with what the flows read, and are the live ones once all is settled.
+-- The sets begin with what the words read, and are the live ones once all is settled.
 use Rattle.std.proofs.Common.{◌≡◌, ℕ, ◌<◌, ◌↔◌, inl, inr, List, [], ◌∷◌, Bool, true, false, length, sym, ◌∙◌, subst, arith, Contains}
 use Rattle.std.specs.Prelude.{slice_index}
 use Rattle.std.proofs.lemmas.Bool.{cases_lt}

@@ -6,3 +6,4 @@ pub mod Spreading
 pub mod Taking
 pub mod Within
 pub mod Bridge
+pub mod LiveLaws

@@ -1,4 +1,4 @@
--- What is live before a word is passed on to the flows before it.
+-- What is live before a word is passed on to the words before it.
 use Rattle.std.proofs.Common.{◌≡◌, ◌≢◌, ℕ, ◌+◌, ◌-◌, ◌<◌, ◌≤◌, inl, inr, List, Bool, IsTrue, length, get_or, sym, ◌∙◌, subst, arith}
 use Rattle.std.specs.Prelude.{slice_index}
 use Rattle.std.proofs.lemmas.Bool.{cases_lt}
@@ -9,7 +9,7 @@ use Rattle.liveness.specs.Flows.{Leads, flow_at}
 use Rattle.liveness.specs.Namers.{IsLast, AreNamers}
 use Rattle.liveness.specs.Growth.{IsSettled}
 
--- what leads to other flows is settled, the word before falls settled, and so are the flows from x on that name this one
+-- what leads to other words is settled, the word before falls settled, and so are the words from x on that name this one
 pub record IsSpread (flows : List Flow) (sets : List ℕ) (waiting : List Bool) (place x : ℕ) : Type 0 where
   pub within : x ≤ length flows
   pub names : 0 < x → (flow_at flows (x - 1)).target ≡ place

@@ -1,4 +1,4 @@
--- Sets that grow towards the live ones.
+-- Sets that grow towards the live ones. These are what the loops keep; no public clause cites them.
 use Rattle.std.specs.Prelude.{◌≡◌, ◌≢◌, ℕ, ◌+◌, ◌-◌, ◌*◌, ◌^◌, ◌<◌, ◌⊎◌, List, Bool, true, false, length, slice_index, slice_index_or, Contains, Option, Some, None, ◌↔◌}
 use Rattle.std.specs.List.{sum_by}
 use Rattle.liveness.specs.declared.flow.Flow.{Flow}
@@ -24,7 +24,7 @@ pub record IsUnder (flows : List Flow) (sets : List ℕ) (waiting : List Bool) (
   pub reads : (k l : ℕ) → k < length flows → Has (flow_at flows k).reads l → Has (slice_index sets k) l
   pub live : (k l : ℕ) → k < length flows → Has (slice_index sets k) l → IsLive flows l k
 
--- how far the sets may still grow, and how many flows wait
+-- how far the sets may still grow, and how many words wait
 abbrev pub room : List ℕ → ℕ
 room sets = sum_by (λ set. 2 ^ 64 - set) sets
 
@@ -34,7 +34,7 @@ work sets stack = 2 * room sets + length stack
 abbrev pub Unwritten : ℕ → ℕ → ℕ → Type 0
 Unwritten set writes l = Has set l × ¬ (Has writes l)
 
--- what has been made of the first flows when all of them are to wait
+-- what has been made of the first words when all of them are to wait
 pub record IsStart (flows : List Flow) (bound : ℕ) (sets : List ℕ) (waiting : List Bool) (stack : List ℕ) : Type 0 where
   pub each_has_one : length sets ≡ bound
   pub each_waits : length waiting ≡ bound

@@ -2,3 +2,4 @@ pub mod Live
 pub mod Flows
 pub mod Namers
 pub mod Growth
+pub mod Laws

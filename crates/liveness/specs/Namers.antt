@@ -1,9 +1,9 @@
--- The flows that name a word, from the last to the first.
+-- The words that name a word, from the last to the first.
 use Rattle.std.specs.Prelude.{◌≡◌, ◌≢◌, ℕ, ◌-◌, ◌<◌, ◌≤◌, List, length, slice_index}
 use Rattle.liveness.specs.declared.flow.Flow.{Flow}
 use Rattle.liveness.specs.Flows.{flow_at}
 
--- Flow x - 1 is the last of the flows before `bound` that names word t. At 0 there is none.
+-- Word x - 1 is the last of the words before `bound` that names word t. At 0 there is none.
 pub record IsLast (flows : List Flow) (t bound x : ℕ) : Type 0 where
   pub within : x ≤ bound
   pub names : 0 < x → (flow_at flows (x - 1)).target ≡ t

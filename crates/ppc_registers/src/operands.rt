@@ -3,7 +3,7 @@
 ghost use Rattle.std.specs.Prelude.{◌≡◌, ◌<◌, ◌^◌, ℕ};
 ghost use Rattle.ppc_isa.specs.Legal.{IsLegal};
 ghost use Rattle.machines.specs.Guest.{immediate_word, logic_word, compare_word, rotate_register, value_a, value_b, value_s, values_of};
-ghost use Rattle.ppc_registers.specs.Held.{Holds, numbers};
+ghost use Rattle.ppc_registers.specs.Held.{numbers, locs_of};
 
 use crate::Registers;
 use ppc_isa::{CompareImmediateOp, ImmediateOp, Instr, LogicImmediateOp, RotateOp};
@@ -47,7 +47,7 @@ fn compare_word(op: CompareImmediateOp, imm: u16) -> u32
 impl Registers {
     fn rotate_register(&self, op: RotateOp, by: u8) -> u32
         requires { by < 32 }
-        ensures { (locs : ℕ → ℕ) → Holds self.now locs → result ≡ rotate_register op by locs }
+        ensures { result ≡ rotate_register op by (locs_of self.now) }
     {
         match op {
             RotateOp::Rlwnm => self.gpr(by),
@@ -58,7 +58,7 @@ impl Registers {
     // The register of bits 11 to 15, or 0 where there is none.
     fn value_a(&self, instr: &Instr) -> u32
         requires { IsLegal instr.now }
-        ensures { (locs : ℕ → ℕ) → Holds self.now locs → result ≡ value_a instr.now locs }
+        ensures { result ≡ value_a instr.now (locs_of self.now) }
     {
         match *instr {
             Instr::Immediate { a, .. }
@@ -100,7 +100,7 @@ impl Registers {
     // The register of bits 16 to 20, or the word that stands for the immediate, or 0 where there is neither.
     fn value_b(&self, instr: &Instr) -> u32
         requires { IsLegal instr.now }
-        ensures { (locs : ℕ → ℕ) → Holds self.now locs → result ≡ value_b instr.now locs }
+        ensures { result ≡ value_b instr.now (locs_of self.now) }
     {
         match *instr {
             Instr::Immediate { op, imm, .. } => immediate_word(op, imm),
@@ -142,7 +142,7 @@ impl Registers {
     // The register of bits 6 to 10, or 0 where there is none.
     fn value_s(&self, instr: &Instr) -> u32
         requires { IsLegal instr.now }
-        ensures { (locs : ℕ → ℕ) → Holds self.now locs → result ≡ value_s instr.now locs }
+        ensures { result ≡ value_s instr.now (locs_of self.now) }
     {
         match *instr {
             Instr::Immediate { d, .. }
@@ -184,7 +184,7 @@ impl Registers {
     /// The old values that a legal instruction reads, and the number that it loaded.
     pub fn values(&self, instr: &Instr, loaded: u32) -> GuestIn<Plain>
         requires { IsLegal instr.now }
-        ensures { (locs : ℕ → ℕ) → Holds self.now locs → numbers result ≡ values_of instr.now loaded locs }
+        ensures { numbers result ≡ values_of instr.now loaded (locs_of self.now) }
     {
         GuestIn {
             a: self.value_a(instr),

@@ -20,7 +20,7 @@ module _ (p : Program) (s : State) (g : Guest) (k : CallKind) (fd at count : ℕ
     (fd_is : fd ≡ g.locs 3) (at_is : at ≡ g.locs 4) (count_is : count ≡ g.locs 5) where
   -- a call whose buffer is held is made
   pub asked : true ≡ is_buffer p k at count → Leads p (Asked (record { kind = k; fd = fd; at = at; count = count })) s (asks_for p k g)
-  asked held = rw (← fd_is, ← at_is, ← count_is, sym held) (record { g = g; state = st; buffer = sym at_is; lists = refl; goes_on = λ answer. refl })
+  asked held = rw (← fd_is, ← at_is, ← count_is, sym held) (record { g = g; state = st; buffer = sym at_is; count = sym count_is; lists = refl; goes_on = λ answer. refl })
 
   -- one whose buffer isn't held ends the run
   pub not_asked : false ≡ is_buffer p k at count → Leads p (Ended Outside) s (asks_for p k g)

@@ -7,8 +7,6 @@ use Rattle.access.proofs.Bytes.{each_at, each_of}
 use Rattle.space.specs.declared.program.Program.{Program}
 use Rattle.machines.specs.Memory.{rights_of, update, load_big, store_big, each_byte}
 use Rattle.machines.specs.Guest.{Guest, put_loaded, store_registers}
-use Rattle.ppc_registers.specs.Held.{Holds}
-use Rattle.ppc_registers.specs.declared.registers.Registers.{Registers}
 use Rattle.ppc_step.specs.declared.state.State.{State}
 use Rattle.ppc_step.specs.Shown.{IsState}
 
@@ -84,11 +82,8 @@ same_test d x y other = ap (λ b. leb d y && b) (same_below x y other)
 abbrev pub put_below : ℕ → ℕ → ℕ → (ℕ → ℕ) → (ℕ → ℕ) → ℕ → ℕ
 put_below x d at bytes locs y = cond (leb d y && ltb y x) (load_big 4 (at + 4 * (y - d)) bytes) (locs y)
 
-same_holds : (r : Registers) (f h : ℕ → ℕ) → Holds r f → ((y : ℕ) → f y ≡ h y) → Holds r h
-same_holds r f h holds same = record { locations = λ y lt. holds.locations y lt ∙ same y; no_more = holds.no_more }
-
 same_state : (p : Program) (s : State) (g : Guest) (h : ℕ → ℕ) → IsState p s g → ((y : ℕ) → g.locs y ≡ h y) → IsState p s (record g { locs = h })
-same_state p s g h is same = record { registers = same_holds s.registers g.locs h is.registers same; next = is.next; memory = is.memory }
+same_state p s g h is same = record { registers = is.registers ∙ (λ i y. same y i); next = is.next; memory = is.memory }
 
 below_none : (d : ℕ) (y : ℕ) → (leb d y && ltb y d) ≡ false
 below_none d y = grind (arith, nat_tests)

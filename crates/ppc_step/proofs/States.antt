@@ -1,5 +1,5 @@
 -- States whose parts change.
-use Rattle.std.proofs.Common.{◌≡◌, ℕ, ◌+◌, ◌%◌, ◌^◌, Bool, true, false, cond, refl, sym, ◌∙◌, ap, subst}
+use Rattle.std.proofs.Common.{◌≡◌, ℕ, List, ◌+◌, ◌%◌, ◌^◌, Bool, true, false, cond, refl, sym, ◌∙◌, ap, subst}
 use Rattle.space.specs.declared.program.Program.{Program}
 use Rattle.machines.specs.Guest.{Guest, onward, loads, stores, behind, branches, linked, branch_target, acts}
 use Rattle.access.specs.Kept.{Keeps}
@@ -11,16 +11,19 @@ use Rattle.ppc_isa.specs.Effect.{Effect}
 use Rattle.ppc_isa.specs.declared.instr.Instr.{Instr}
 use Rattle.runs.specs.Machine.{Goes}
 use Rattle.machines.specs.Memory.{update, each_byte, rights_of}
-use Rattle.ppc_registers.specs.Held.{Holds}
-use Rattle.ppc_registers.specs.declared.registers.Registers.{Registers}
+use Rattle.ppc_registers.specs.Held.{locs_of}
 use Rattle.ppc_step.specs.declared.state.State.{State}
 use Rattle.ppc_step.specs.Shown.{IsState}
 use Rattle.ppc_step.specs.Steps.{Leads}
 
 -- other registers
-pub with_registers : (p : Program) (s : State) (g : Guest) (r : Registers) (locs : ℕ → ℕ) → IsState p s g → Holds r locs
+pub with_registers : (p : Program) (s : State) (g : Guest) (r : List ℕ) (locs : ℕ → ℕ) → IsState p s g → locs_of r ≡ locs
     → IsState p (record s { registers = r }) (record g { locs = locs })
 with_registers p s g r locs is holds = record { registers = holds; next = is.next; memory = is.memory }
+
+-- one register more, where the others are those of the guest
+pub gpr_put : (r s : List ℕ) (locs : ℕ → ℕ) (k v : ℕ) → locs_of s ≡ update (locs_of r) k v → locs_of r ≡ locs → locs_of s ≡ update locs k v
+gpr_put r s locs k v put is = put ∙ ap (λ f. update f k v) is
 
 -- other memory
 pub with_memory : (p : Program) (s : State) (g : Guest) (m : Memory) (bytes : ℕ → ℕ) → IsState p s g → Keeps p bytes m
@@ -45,13 +48,13 @@ module _ (p : Program) (new : State) (g : Guest) (e : Effect) where
   store_stops bytes locs outside = rw outside refl
 
 -- a branch that is taken or not
-pub jumped : (p : Program) (s : State) (g : Guest) (r : Registers) (link taken : Bool) (target after next : ℕ) → IsState p s g → after ≡ behind s.next
-    → Holds r (cond link (update g.locs 32 after) g.locs) → next ≡ cond taken target after
+pub jumped : (p : Program) (s : State) (g : Guest) (r : List ℕ) (link taken : Bool) (target after next : ℕ) → IsState p s g → after ≡ behind s.next
+    → locs_of r ≡ (cond link (update g.locs 32 after) g.locs) → next ≡ cond taken target after
     → IsState p (record { registers = r; next = next; memory = s.memory }) (branches (linked link g.next g.locs) taken target g)
 jumped p s g r link taken target after next is after_is holds next_is =
     let e : after ≡ behind g.next = after_is ∙ ap behind is.next in
     record {
-      registers = subst (λ b. Holds r (cond link (update g.locs 32 b) g.locs)) e holds;
+      registers = holds ∙ ap (λ b. cond link (update g.locs 32 b) g.locs) e;
       next = next_is ∙ ap (λ b. cond taken target b) e;
       memory = is.memory;
     }

@@ -21,5 +21,6 @@ pub record IsAsking (p : Program) (s : State) (c : Call) (call : ListedCall) (ne
   pub g : Guest
   pub state : IsState p s g
   pub buffer : g.locs 4 ≡ c.at
+  pub count : g.locs 5 ≡ c.count
   pub lists : call ≡ listed_call c g.bytes
   pub goes_on : (answer : AnswerValue) → next answer ≡ after_given (given call answer) g

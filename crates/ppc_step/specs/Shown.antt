@@ -9,13 +9,13 @@ use Rattle.ppc_parts.specs.Meanings.{effect_of}
 use Rattle.machines.specs.Memory.{each_byte, rights_of}
 use Rattle.machines.specs.Guest.{Guest}
 use Rattle.access.specs.Kept.{Keeps}
-use Rattle.ppc_registers.specs.Held.{Holds}
+use Rattle.ppc_registers.specs.Held.{locs_of}
 use Rattle.ppc_step.specs.declared.state.State.{State}
 
 -- Registers, the next instruction's address and memory are those of the guest. Memory has the rights and the code of the
 -- program.
 pub record IsState (p : Program) (s : State) (g : Guest) : Type 0 where
-  pub registers : Holds s.registers g.locs
+  pub registers : locs_of s.registers ≡ g.locs
   pub next : s.next ≡ g.next
   pub memory : Keeps p g.bytes s.memory
 

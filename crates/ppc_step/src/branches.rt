@@ -7,7 +7,7 @@ ghost use Rattle.runs.specs.Machine.{Goes, Ends};
 ghost use Rattle.ppc_isa.specs.Legal.{IsLegal};
 ghost use Rattle.machines.specs.Memory.{update};
 ghost use Rattle.machines.specs.Guest.{Guest, effect_of, onward, branches, linked, branch_target, register_target};
-ghost use Rattle.ppc_registers.specs.Held.{Holds};
+ghost use Rattle.ppc_registers.specs.Held.{locs_of};
 ghost use Rattle.ppc_step.specs.Shown.{IsState, is_load};
 ghost use Rattle.ppc_step.specs.Steps.{Leads, IsDone};
 
@@ -58,7 +58,7 @@ fn next_of(taken: bool, target: u32, behind: u32) -> u32
 
 // Where bclr and bcctr go.
 fn register_target(op: BranchRegisterOp, registers: &Registers) -> u32
-    ensures { (locs : ℕ → ℕ) → Holds registers.now locs → result ≡ register_target op locs }
+    ensures { result ≡ register_target op (locs_of registers.now) }
 {
     match op {
         BranchRegisterOp::Bclr => registers.lr() / 4 * 4,

@@ -1,6 +1,6 @@
 //! The machine.
 
-ghost use Rattle.std.specs.Prelude.{◌≡◌, ◌<◌, ℕ, Option, IfOk, slice_index};
+ghost use Rattle.std.specs.Prelude.{◌≡◌, ◌<◌, ℕ, Option, IfOk};
 ghost use Rattle.space.specs.declared.call.End.{End as Ending};
 ghost use Rattle.space.specs.declared.program.Program.{Program as OfProgram};
 ghost use Rattle.space.specs.Memory.{AreApart};
@@ -10,6 +10,7 @@ ghost use Rattle.ppc_isa.specs.declared.instr.Instr.{Instr};
 ghost use Rattle.access.specs.Kept.{HasClosedCode};
 ghost use Rattle.machines.specs.Readings.{ReadsWords};
 ghost use Rattle.machines.specs.Guest.{Guest, guest_machine, guest_start};
+ghost use Rattle.ppc_registers.specs.Held.{locs_of};
 ghost use Rattle.machine_calls.specs.Phases.{IsWaiting, Tells, stepped};
 ghost use Rattle.ppc_step.specs.Steps.{Shows, IsTold};
 
@@ -116,10 +117,11 @@ impl Machine {
         &self.state.memory
     }
 
-    /// The value of GPR `g`.
+    /// The value of GPR `g`, which is that of the run where the machine goes on.
     pub fn gpr(&self, g: u8) -> u32
         requires { g < 32 }
-        ensures { result ≡ slice_index self.now.state.registers.gprs g }
+        ensures kept { result ≡ locs_of self.now.state.registers g }
+        ensures run { (p : OfProgram) (s : Guest) → Shows p self.now (Goes s) → result ≡ s.locs g }
     {
         self.state.registers.gpr(g)
     }

@@ -4,7 +4,7 @@ ghost use Rattle.std.specs.Prelude.{◌≡◌, ◌<◌, ℕ, false};
 ghost use Rattle.space.specs.declared.program.Program.{Program};
 ghost use Rattle.ppc_isa.specs.Legal.{IsLegal};
 ghost use Rattle.machines.specs.Guest.{Guest, effect_of, onward, results, put_cr, put_special};
-ghost use Rattle.ppc_registers.specs.Held.{Holds};
+ghost use Rattle.ppc_registers.specs.Held.{locs_of};
 ghost use Rattle.ppc_step.specs.Shown.{IsState, told, is_load};
 
 use crate::State;
@@ -18,7 +18,7 @@ use word_kit::Plain;
 // One result, and what the form puts beside it.
 fn put_results(registers: &mut Registers, form: Form, x: u8, value: u32, effect: &Effect<Plain>)
     requires { x < 32 }
-    ensures { (locs : ℕ → ℕ) → Holds registers.old locs → Holds registers.new (results form.carries form.records x value (told effect.now) locs) }
+    ensures { locs_of registers.new ≡ results form.carries form.records x value (told effect.now) (locs_of registers.old) }
 {
     registers.put_gpr(x, value);
     registers.put_cr(form.records, effect.cr);
@@ -27,7 +27,7 @@ fn put_results(registers: &mut Registers, form: Form, x: u8, value: u32, effect:
 
 // Puts the special register of this number.
 fn put_special(registers: &mut Registers, spr: u16, effect: &Effect<Plain>)
-    ensures { (locs : ℕ → ℕ) → Holds registers.old locs → Holds registers.new (put_special spr (told effect.now) locs) }
+    ensures { locs_of registers.new ≡ put_special spr (told effect.now) (locs_of registers.old) }
 {
     match spr {
         1 => registers.put_xer(true, effect.xer),

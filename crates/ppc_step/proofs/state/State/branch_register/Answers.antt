@@ -1,13 +1,13 @@
-use Rattle.std.proofs.Common.{subst}
+use Rattle.std.proofs.Common.{◌∙◌, ap, subst}
 use Rattle.machines.specs.Memory.{update}
-use Rattle.machines.specs.Guest.{branches, linked}
+use Rattle.machines.specs.Guest.{branches, linked, register_target}
 use Rattle.ppc_step.specs.Shown.{IsState}
-use Rattle.ppc_step.proofs.States.{with_registers}
+use Rattle.ppc_step.proofs.States.{gpr_put, with_registers}
 use Rattle.ppc_step.proofs.state.State.branch_register.Goals as goal
 
 pub returns-clause-state : goal.returns-clause-state
 returns-clause-state c = λ p g is.
     rw (← c.effect-effect.ensures.effect p g is)
     (subst (λ t. IsState p c.jump.new.self (branches (linked c.args.link g.next (update g.locs 33 c.effect-effect.result.ctr)) c.effect-effect.result.taken t g))
-    (c.register_target-target.ensures g.locs is.registers)
-    (c.jump.ensures.state p _ (with_registers p c.args.self.now g _ _ is (c.put_ctr.ensures g.locs is.registers))))
+    (c.register_target-target.ensures ∙ ap (register_target c.args.op) is.registers)
+    (c.jump.ensures.state p _ (with_registers p c.args.self.now g _ _ is (gpr_put _ _ _ _ _ c.put_ctr.ensures is.registers))))

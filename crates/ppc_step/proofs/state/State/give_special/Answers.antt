@@ -1,7 +1,10 @@
+use Rattle.std.proofs.Common.{◌∙◌, ap}
+use Rattle.machines.specs.Guest.{put_special}
+use Rattle.ppc_step.specs.Shown.{told}
 use Rattle.ppc_step.proofs.States.{with_registers}
 use Rattle.ppc_step.proofs.state.State.give_special.Goals as goal
 
 pub returns-clause-state : goal.returns-clause-state
 returns-clause-state c = λ p g is.
     rw (← c.effect-effect.ensures.effect p g is)
-    (c.go_on.ensures.state p _ (with_registers p c.args.self.now g _ _ is (c.put_special.ensures g.locs is.registers)))
+    (c.go_on.ensures.state p _ (with_registers p c.args.self.now g _ _ is (c.put_special.ensures ∙ ap (put_special c.args.spr (told c.effect-effect.result)) is.registers)))

@@ -4,7 +4,7 @@ use Rattle.ppc_isa.specs.Effect.{Effect}
 use Rattle.machines.specs.Memory.{store_big, update}
 use Rattle.ppc_step.specs.Shown.{told}
 use Rattle.ppc_step.proofs.Rows.{store_width, no_load}
-use Rattle.ppc_step.proofs.States.{with_memory, with_registers, store_goes, store_stops}
+use Rattle.ppc_step.proofs.States.{gpr_put, with_memory, with_registers, store_goes, store_stops}
 use Rattle.ppc_step.proofs.state.State.store_update.Goals as goal
 
 pub effect-effect-requires-clause-other : goal.effect-effect-requires-clause-other
@@ -27,4 +27,4 @@ returns-clause-leads c = λ p g is.
     rw (← c.effect-effect.ensures.effect p g is)
     (store_goes p c.go_on.new.self g e c.go_on.result (store_big e.width e.address e.stored g.bytes) (update g.locs c.args.a e.a) c.go_on.ensures.event
     (sym (c.store_big.ensures.answer p g.bytes is.memory) ∙ c.if-not-store_big.false)
-    (c.go_on.ensures.state p _ (with_registers p (record c.args.self.now { memory = c.store_big.new.space }) _ _ _ (with_memory p c.args.self.now g _ _ is (OnTrue_at c.if-not-store_big.false c.store_big.ensures.stored p g.bytes is.memory)) (c.put_gpr.ensures g.locs is.registers))))
+    (c.go_on.ensures.state p _ (with_registers p (record c.args.self.now { memory = c.store_big.new.space }) _ _ _ (with_memory p c.args.self.now g _ _ is (OnTrue_at c.if-not-store_big.false c.store_big.ensures.stored p g.bytes is.memory)) (gpr_put _ _ _ _ _ c.put_gpr.ensures is.registers))))

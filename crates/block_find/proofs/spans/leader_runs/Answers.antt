@@ -1,7 +1,7 @@
 use Rattle.std.proofs.Common.{◌≡◌, ◌∙◌, ap, sym, arith, true, false}
 use Rattle.block_find.proofs.Dividing.{open_first, open_leader, open_other, closed, all_blocks, divide}
-use Rattle.block_find.proofs.runs.leader_runs.Goals as goal
-use Rattle.block_find.proofs.runs.leader_runs.Goals.{then-leads-place+in_ok-push, else-leads-place}
+use Rattle.block_find.proofs.spans.leader_runs.Goals as goal
+use Rattle.block_find.proofs.spans.leader_runs.Goals.{then-leads-place+in_ok-push, else-leads-place}
 
 pub loop-place-init : goal.loop-place-init
 loop-place-init c = open_first c.args.code.now.first c.args.code.now.entry c.args.code.now.words.now c.args.leads.now c.requires.leaders (omega arith) c.new-runs.result.items c.new-runs.ensures.items

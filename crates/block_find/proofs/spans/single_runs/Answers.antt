@@ -1,8 +1,8 @@
 use Rattle.std.proofs.Common.{◌∙◌, ◌++◌, ◌∷◌, [], ap, sym}
 use Rattle.block_find.specs.Blocks.{alone}
 use Rattle.block_find.proofs.SingleWords.{single_more, single_less}
-use Rattle.block_find.proofs.runs.single_runs.Goals as goal
-use Rattle.block_find.proofs.runs.single_runs.Goals.{then-not-leads-place+in_ok-push, else-not-leads-place}
+use Rattle.block_find.proofs.spans.single_runs.Goals as goal
+use Rattle.block_find.proofs.spans.single_runs.Goals.{then-not-leads-place+in_ok-push, else-not-leads-place}
 
 pub loop-place-preserved : goal.loop-place-preserved
 loop-place-preserved c = elim c.if-not-leads-place.branch [
