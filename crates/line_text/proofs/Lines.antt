@@ -10,7 +10,7 @@ abbrev pub AreWords : List (List ℕ) → Type 0
 AreWords ws = (0 < length ws) × AllByRecursion (IsFree 32) ws × AllByRecursion (IsFree 10) ws
 
 -- words without the separator are what is split again
-split-join : (by : ℕ) (w : List ℕ) (ws : List (List ℕ)) → AllByRecursion (IsFree by) (w ∷ ws) → slice_split (λ b. b == by) (join_with_byte by (w ∷ ws)) ≡ w ∷ ws
+pub split-join : (by : ℕ) (w : List ℕ) (ws : List (List ℕ)) → AllByRecursion (IsFree by) (w ∷ ws) → slice_split (λ b. b == by) (join_with_byte by (w ∷ ws)) ≡ w ∷ ws
 split-join by w [] h = slice_split_none (λ b. b == by) w (all-free by w h.0)
 split-join by w (v ∷ ws) h = slice_split_at (λ b. b == by) w by (join_with_byte by (v ∷ ws)) (all-free by w h.0) (same by) ∙ ap (λ vs. w ∷ vs) (split-join by v ws h.1)
 
