@@ -18,7 +18,7 @@ use Rattle.rule_form.specs.Words.{letter, slots_word, dead_word, hole_letter, ho
 use Rattle.rule_form.specs.Texts.{Item, Title, Open, GuestLine, At, Dead, Host, Take, Clause, End, words_of}
 use Rattle.rule_form.specs.Machine.{IsItem, IsHoleWord, IsTakeWord}
 use Rattle.rule_form.proofs.Separate.{IsWord, word, word-cons, word-decimal, word-hexadecimal, words-free, high}
-use Rattle.rule_form.proofs.Names.{word-dead, dead-same}
+use Rattle.rule_form.proofs.DeadNames.{word-dead, dead-same}
 use Rattle.rule_form.proofs.SpelledBytes.{word-same, op-same}
 
 -- The words have no separators.

@@ -1,6 +1,7 @@
 pub mod Separate
-pub mod Names
+pub mod DeadNames
 pub mod SpelledBytes
 pub mod ItemWords
 pub mod Windows
 pub mod RuleGrammar
+pub mod Printed

@@ -1,2 +1,10 @@
-//! The text of rules.
+//! The text of rules: what a rule file holds.
 #![tactic(auto)]
+
+mod names;
+mod printing;
+mod writing;
+
+pub use rule_body::{
+    Body, DeadSet, Goal, Guest, Hole, HostLine, Rule, allowed, body_cost,
+};
