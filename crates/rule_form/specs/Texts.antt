@@ -55,6 +55,10 @@ pub record IsWritten (r : RuleText) : Type 0 where
   pub taken : IsTake r.template.guests r.take
   pub clauses : AllByRecursion (AreRising 0) r.clauses
 
+-- the lines of a window
+abbrev pub front_of : Template → List Item
+front_of t = Open ∷ (map GuestLine t.guests ++ (At t.slots ∷ Dead t.dead ∷ []))
+
 -- a rule's lines but for the last
 abbrev pub opened : RuleText → List Item
 opened r =

@@ -5,6 +5,7 @@ mod names;
 mod printing;
 mod writing;
 
+pub use printing::print;
 pub use rule_body::{
     Body, DeadSet, Goal, Guest, Hole, HostLine, Rule, allowed, body_cost,
 };
