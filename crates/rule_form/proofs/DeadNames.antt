@@ -1,15 +1,13 @@
 -- The names of what may be dead: which are chosen is told by their words.
-use Rattle.std.proofs.Common.{◌≡◌, ◌≢◌, ℕ, zero, suc, ◌+◌, ◌*◌, ◌/◌, ◌%◌, ◌<◌, ◌≤◌, ◌^◌, ◌++◌, ◌==◌, ◌&&◌, not, List, [], ◌∷◌, length, get_or, drop, fold, refl, sym, ap, ◌∙◌, arith, Bool, true, false, IsTrue, cond, pow-suc}
+use Rattle.std.proofs.Common.{◌≡◌, ◌≢◌, ℕ, zero, suc, ◌+◌, ◌*◌, ◌/◌, ◌%◌, ◌<◌, ◌≤◌, ◌^◌, ◌++◌, ◌==◌, ◌&&◌, not, List, [], ◌∷◌, length, get_or, drop, fold, refl, sym, ap, ◌∙◌, arith, Bool, true, false, IsTrue, cond, pow-suc, map, take, ◌-◌, Bor, Option, Some, None, MatchOption, codes, subst}
+use Rattle.std.proofs.Math.Seq.{take-length}
+use Rattle.std.proofs.lemmas.List.Splits.{join_with_byte-slice_split}
 use Rattle.std.specs.List.{AllByRecursion, join_with_byte, slice_split}
 use Rattle.line_text.specs.Lines.{IsFree}
 use Rattle.line_text.proofs.Lines.{split-join}
+use Rattle.rule_form.specs.Names.{Differ}
 use Rattle.rule_form.specs.Words.{names, chosen, listed, dead_word}
 use Rattle.rule_form.proofs.Separate.{IsWord, word, word-join, tested, both, not-true, is_free}
-
--- names differ from each other
-abbrev pub Differ : List (List ℕ) → Type 0
-Differ [] = Unit {0}
-Differ (n ∷ ns) = AllByRecursion (λ m. m ≢ n) ns × Differ ns
 
 -- the bytes of a name as one number
 abbrev number : List ℕ → ℕ
@@ -78,6 +76,27 @@ chosen-same (n ∷ ns) a b d g h e = go (a % 2 == 1) refl (b % 2 == 1) refl e (�
     go false ea false eb e halves = let s = halves e in let f = even a ea in let k = even b eb in omega (arith, s, f, k)
     go true ea false eb e halves = absurd (first-chosen ns n (b / 2) (chosen ns (a / 2)) d.0 (sym e))
     go false ea true eb e halves = absurd (first-chosen ns n (a / 2) (chosen ns (b / 2)) d.0 e)
+
+all-taken : {A : Type 0} (xs : List A) (n : ℕ) → n ≡ length xs → take n xs ≡ xs
+all-taken xs n e = ap (λ k. take k xs) e ∙ take-length xs
+
+-- names behind one that is chosen are none
+pub odd-none : (ns : List (Bor (List ℕ))) (ps rest : List (List ℕ)) (d : Bor (List ℕ)) (b : ℕ) → 1 ≤ length ns → Differ (map (λ n. n.now) ns) → b < 2 ^ length ns → ps ≡ (get_or ns 0 d).now ∷ rest
+    → ((a : ℕ) → a < 2 ^ length (take (length ns - 1) (drop 1 ns)) → rest ≢ chosen (map (λ n. n.now) (take (length ns - 1) (drop 1 ns))) a) → ps ≡ chosen (map (λ n. n.now) ns) b → ⊥
+odd-none [] ps rest d b some differ low is none e = absurd (omega (arith, some))
+odd-none (n ∷ ns) ps rest d b some differ low is none e = go (b % 2 == 1) (sym is ∙ e)
+  where
+    left : take (length (n ∷ ns) - 1) ns ≡ ns
+    left = all-taken ns (length (n ∷ ns) - 1) (omega arith)
+
+    half : b / 2 < 2 ^ length ns
+    half = let p : 2 ^ suc (length ns) ≡ 2 ^ length ns * 2 = pow-suc 2 (length ns) in omega (arith, low, p)
+
+    go : (x : Bool) → n.now ∷ rest ≡ cond x (n.now ∷ chosen (map (λ n. n.now) ns) (b / 2)) (chosen (map (λ n. n.now) ns) (b / 2)) → ⊥
+    go true is =
+        none (b / 2) (subst (λ l. b / 2 < 2 ^ length l) (sym left) half)
+        (ap (drop 1) is ∙ ap (λ l. chosen (map (λ m. m.now) l) (b / 2)) (sym left))
+    go false is = first-chosen (map (λ n. n.now) ns) n.now (b / 2) rest differ.0 (sym is)
 
 -- a fact of all names is one of those that are chosen
 pub all-chosen : (P : List ℕ → Type 0) (ns : List (List ℕ)) (bits : ℕ) → AllByRecursion P ns → AllByRecursion P (chosen ns bits)
@@ -150,3 +169,24 @@ word-listed (n ∷ ns) h = word-join (n ∷ ns) (words (n ∷ ns) h)
 
 pub word-dead : (bits : ℕ) → IsWord (dead_word bits)
 word-dead bits = word-listed (chosen names bits) (all-chosen IsName names bits names-are)
+
+-- the pieces of a word that is no dash
+dead-pieces : (word : List ℕ) (b : ℕ) → word ≢ codes "-" → word ≡ dead_word b → slice_split (λ c. c == 44) word ≡ chosen names b
+dead-pieces word b not is = go (chosen names b) (all-chosen IsName names b names-are) is
+  where
+    go : (ns : List (List ℕ)) → AllByRecursion IsName ns → word ≡ listed ns → slice_split (λ c. c == 44) word ≡ ns
+    go [] h is = absurd (not is)
+    go (n ∷ ns) h is = ap (slice_split (λ c. c == 44)) is ∙ split-listed (n ∷ ns) h (omega arith)
+
+-- pieces that are names make their list
+made : (word : List ℕ) (ns : List (List ℕ)) → slice_split (λ c. c == 44) word ≡ ns → word ≡ listed ns
+made word (n ∷ ns) is = sym (join_with_byte-slice_split 44 word) ∙ ap (join_with_byte 44) is
+made word [] is =
+    let none : word ≡ [] = sym (join_with_byte-slice_split 44 word) ∙ ap (join_with_byte 44) is in
+    let one : length (slice_split (λ c. c == 44) word) ≡ 1 = ap (λ w. length (slice_split (λ c. c == 44) w)) none in let two : length (slice_split (λ c. c == 44) word) ≡ 0 = ap length is in absurd (omega (arith, one, two))
+
+pub dead-said : (word : List ℕ) (ps : List (List ℕ)) (o : Option ℕ) → word ≢ codes "-" → ps ≡ slice_split (λ c. c == 44) word
+    → MatchOption o ((b : ℕ) → b < 2 ^ 20 → ps ≡ chosen names b → ⊥) (λ b. (b < 2 ^ 20) × (ps ≡ chosen names b))
+    → MatchOption o ((b : ℕ) → b < 2 ^ 20 → word ≡ dead_word b → ⊥) (λ b. (b < 2 ^ 20) × (word ≡ dead_word b))
+dead-said word ps None not is none = λ b low e. none b low (is ∙ dead-pieces word b not e)
+dead-said word ps (Some b) not is some = (some.0, made word (chosen names b) (sym is ∙ some.1))

@@ -5,3 +5,4 @@ pub mod ItemWords
 pub mod Windows
 pub mod RuleGrammar
 pub mod Printed
+pub mod WordFields

@@ -149,6 +149,9 @@ bytes-spelling Int80 h = (omega arith, (omega arith, tt))
 bytes-spelling Int3 h = (omega arith, tt)
 bytes-spelling Ud2 h = (omega arith, (omega arith, tt))
 
+pub spelled-bytes : (op : Op) → IsInProfile op → (i : ℕ) → get_or (spelling op) i 0 < 256
+spelled-bytes op h = bytes-at (spelling op) (bytes-spelling op h)
+
 append-nil : (xs : List ℕ) → xs ++ [] ≡ xs
 append-nil [] = refl
 append-nil (x ∷ xs) = ap (λ ys. x ∷ ys) (append-nil xs)

@@ -1,6 +1,8 @@
 //! The text of rules: what a rule file holds.
 #![tactic(auto)]
 
+mod fields;
+mod line;
 mod names;
 mod printing;
 mod writing;
