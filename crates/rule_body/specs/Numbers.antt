@@ -2,8 +2,14 @@
 use Rattle.std.specs.Prelude.{ℕ, ◌+◌, ◌≤◌, ◌++◌, List, [], ◌∷◌, max, fold}
 use Rattle.ppc_isa.specs.declared.instr.Instr.{Instr}
 use Rattle.ppc_isa.specs.declared.instr.Instr.TheVariants.{Immediate, LogicImmediate, Load, Store, LoadUpdate, StoreUpdate, CompareImmediate, Rotate, Arithmetic, ArithmeticUnary, Logic, ShiftImmediate, LogicUnary, Compare, MoveFromCr, MoveToCr, MoveFromSpr, MoveToSpr, LoadIndexed, StoreIndexed, LoadIndexedUpdate, StoreIndexedUpdate}
+use Rattle.ppc_isa.specs.declared.instr.RotateOp.{RotateOp}
 use Rattle.ppc_isa.specs.declared.instr.RotateOp.TheVariants.{Rlwnm}
 use Rattle.ppc_isa.specs.Locations.{base, immediate_operand}
+
+-- the fields of a rotation: rlwnm has its count in a register
+abbrev pub rotated : RotateOp → ℕ → ℕ → ℕ → List ℕ
+rotated Rlwnm s a b = s ∷ a ∷ b ∷ []
+rotated op s a by = s ∷ a ∷ []
 
 -- the numbers in the fields that name general registers, from the left; where 0 in the place of a base stands for the number
 -- 0, it names none
@@ -15,8 +21,7 @@ numbers (Store op s a imm) = s ∷ base a
 numbers (LoadUpdate op d a imm) = d ∷ a ∷ []
 numbers (StoreUpdate op s a imm) = s ∷ a ∷ []
 numbers (CompareImmediate op field a imm) = a ∷ []
-numbers (Rotate Rlwnm s a b mask_begin mask_end records) = s ∷ a ∷ b ∷ []
-numbers (Rotate op s a by mask_begin mask_end records) = s ∷ a ∷ []
+numbers (Rotate op s a by mask_begin mask_end records) = rotated op s a by
 numbers (Arithmetic op d a b records) = d ∷ a ∷ b ∷ []
 numbers (ArithmeticUnary op d a records) = d ∷ a ∷ []
 numbers (Logic op s a b records) = s ∷ a ∷ b ∷ []

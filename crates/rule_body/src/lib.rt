@@ -9,6 +9,6 @@ mod rule;
 
 pub use body::{Body, access_count, allowed, body_cost, take_fits};
 pub use goal::{DeadSet, Goal, Guest, guest_at, is_ending, is_ending_word, last_guest};
-pub use line::{Hole, HostLine, fits};
+pub use line::{Hole, HostLine, fits, slot_count};
 pub use operands::accesses;
 pub use rule::Rule;

@@ -29,7 +29,8 @@ pub struct HostLine {
     pub hole: Option<(Hole, u8)>,
 }
 
-fn slot_count(slots: &[bool]) -> usize
+/// How many of the parameters stand in slots.
+pub fn slot_count(slots: &[bool]) -> usize
     ensures { result ≡ slots_in slots.now }
 {
     slots.iter().filter(|slot| **slot).count()

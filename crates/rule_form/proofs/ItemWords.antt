@@ -4,7 +4,7 @@ use Rattle.std.specs.List.{AllByRecursion}
 use Rattle.std.specs.Int.{w32, to_be_bytes}
 use Rattle.std.proofs.lemmas.Fmt.{first_decimal, decimal_injective}
 use Rattle.std.proofs.lemmas.List.{length-map}
-use Rattle.word_kit.specs.Formulas.{variable}
+use Rattle.word_kit.specs.Formulas.{variable, IsLiteral}
 use Rattle.hex.specs.Hex.{encode_lower}
 use Rattle.ia_codec.specs.Spelling.{spelling}
 use Rattle.ia_codec.specs.declared.op.Op.{Op}
@@ -149,6 +149,14 @@ literals-same i j (x ∷ xs) (y ∷ ys) g h e =
     ∙ ap (λ ks. y ∷ ks) (literals-same (variable x) (variable y) xs ys g.2 h.2 (ap (drop 1) e))
 literals-same i j [] (y ∷ ys) g h e = absurd (let f = ap length e in omega (arith, f))
 literals-same i j (x ∷ xs) [] g h e = absurd (let f = ap length e in omega (arith, f))
+
+pub fit-literals-same : (xs ys : List ℤ) → AllByRecursion IsLiteral xs → AllByRecursion IsLiteral ys → map literal_word xs ≡ map literal_word ys → xs ≡ ys
+fit-literals-same [] [] g h e = refl
+fit-literals-same (x ∷ xs) (y ∷ ys) g h e =
+    ap (λ k. k ∷ xs) (literal-same x y g.0.nonzero g.0.within h.0.nonzero h.0.within (ap (λ ws. get_or ws 0 []) e))
+    ∙ ap (λ ks. y ∷ ks) (fit-literals-same xs ys g.1 h.1 (ap (drop 1) e))
+fit-literals-same [] (y ∷ ys) g h e = absurd (let f = ap length e in omega (arith, f))
+fit-literals-same (x ∷ xs) [] g h e = absurd (let f = ap length e in omega (arith, f))
 
 free-same : (a b : Bool) → cond a (codes "any") (codes "lit") ≡ cond b (codes "any") (codes "lit") → a ≡ b
 free-same true true e = refl

@@ -6,3 +6,4 @@ pub mod Windows
 pub mod RuleGrammar
 pub mod Printed
 pub mod WordFields
+pub mod ClauseWords

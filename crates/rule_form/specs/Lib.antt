@@ -4,3 +4,4 @@ pub mod Machine
 pub mod Said
 pub mod Slots
 pub mod Names
+pub mod Partial

@@ -3,8 +3,11 @@
 
 mod fields;
 mod line;
+mod literals;
 mod names;
 mod printing;
+mod rows;
+mod window;
 mod writing;
 
 pub use printing::print;
