@@ -7,3 +7,4 @@ pub mod RuleGrammar
 pub mod Printed
 pub mod WordFields
 pub mod ClauseWords
+pub mod Growing

@@ -5,3 +5,5 @@ pub mod Said
 pub mod Slots
 pub mod Names
 pub mod Partial
+pub mod Reached
+pub mod Faults

@@ -1,6 +1,7 @@
 //! Goals whose lines are read one by one.
 
 ghost use Rattle.std.specs.Prelude.{◌≡◌, ◌⊎◌, ◌↔◌, ◌<◌, ◌≤◌, ◌^◌, ◌+◌, ◌++◌, ◌∷◌, [], ℕ, IsTrue, IsBitSet, MatchOption, take, slice_set};
+ghost use Rattle.rule_body.specs.Rows.{has_access as access};
 ghost use Rattle.rule_body.specs.Templates.{IsBranching, IsPlaced, IsTemplate, named as named_of};
 ghost use Rattle.rule_body.specs.Goals.{guests_of, template_of, IsTidy, IsGoal};
 ghost use Rattle.rule_form.specs.Machine.{IsFront};
@@ -9,7 +10,7 @@ ghost use Rattle.rule_form.specs.Slots.{AreSlots};
 
 use crate::fields::Slots;
 use crate::rows::{has_access, may_stand, parameters_after};
-use ppc_isa::{decode, writes};
+use ppc_isa::{Instr, decode, writes};
 use rule_body::{DeadSet, Goal, Guest, guest_at, is_ending_word, last_guest, slot_count};
 
 // Whether the word at a place loads or stores.
@@ -32,6 +33,14 @@ fn accesses(goal: &Goal) -> bool
     ensures { IsTrue result ↔ (AccessAt (guests_of goal.now) 0 ⊎ (AccessAt (guests_of goal.now) 1 ⊎ AccessAt (guests_of goal.now) 2)) }
 {
     accesses_at(goal, 0) || accesses_at(goal, 1) || accesses_at(goal, 2)
+}
+
+// Whether an instruction would be the second that loads or stores.
+fn is_second(goal: &Goal, instr: &Instr) -> bool
+    requires { goal.now.count ≤ 3 }
+    ensures { IsTrue result ↔ (IsTrue (access instr.now) × (AccessAt (guests_of goal.now) 0 ⊎ (AccessAt (guests_of goal.now) 1 ⊎ AccessAt (guests_of goal.now) 2))) }
+{
+    has_access(instr) && accesses(goal)
 }
 
 // Whether the window ends in a branch so far.
@@ -67,7 +76,10 @@ pub fn with_guest(goal: Goal, guest: Guest) -> Option<Goal>
         (IsFront (guests_of goal ++ guest ∷ []) → ⊥)
         (λ g. IsPartial g × (guests_of g ≡ guests_of goal ++ guest ∷ [])) }
 {
-    if goal.count >= 3 || is_ended(&goal) {
+    if goal.count >= 3 {
+        return None;
+    }
+    if is_ended(&goal) {
         return None;
     }
     let Some(instr) = decode(guest.word) else {
@@ -76,7 +88,7 @@ pub fn with_guest(goal: Goal, guest: Guest) -> Option<Goal>
     if !may_stand(guest.free, &instr) {
         return None;
     }
-    if has_access(&instr) && accesses(&goal) {
+    if is_second(&goal, &instr) {
         return None;
     }
     let Some(parameters) = parameters_after(goal.parameters, &instr) else {
@@ -93,7 +105,10 @@ pub fn with_slots(goal: Goal, slots: Slots) -> Option<Goal>
         (IsPlaced (guests_of goal) (take slots.count slots.slots) → ⊥)
         (λ g. IsTidy g × IsPlaced (guests_of goal) (take slots.count slots.slots) × (guests_of g ≡ guests_of goal) × (take g.parameters g.slots ≡ take slots.count slots.slots)) }
 {
-    if goal.count == 0 || slots.count != goal.parameters {
+    if goal.count == 0 {
+        return None;
+    }
+    if slots.count != goal.parameters {
         return None;
     }
     if slot_count(&slots.slots[..slots.count as usize]) > 3 {
@@ -103,6 +118,13 @@ pub fn with_slots(goal: Goal, slots: Slots) -> Option<Goal>
         slots: slots.slots,
         ..goal
     })
+}
+
+fn has_bit(bits: u64, place: u8) -> bool
+    requires { place < 64 }
+    ensures { IsTrue result ↔ IsBitSet bits place }
+{
+    bits >> place & 1 == 1
 }
 
 // Whether the word at a place writes a location.
@@ -117,7 +139,7 @@ fn writes_at(goal: &Goal, place: u8, location: u8) -> bool
     let Some(instr) = decode(guest.word) else {
         return false;
     };
-    writes(&instr).bits >> location & 1 == 1
+    has_bit(writes(&instr).bits, location)
 }
 
 // Whether a word of the window writes a location.
@@ -137,6 +159,20 @@ fn named(name: u8) -> u8
     if name < 6 { name + 1 } else { name + 26 }
 }
 
+// Whether a name is not dead, or its location is written.
+fn is_settled(goal: &Goal, dead: u32, name: u8) -> bool
+    requires count { goal.now.count ≤ 3 }
+    requires name { name < 20 }
+    ensures { IsTrue result ↔ (IsBitSet dead name
+        → WrittenAt (guests_of goal.now) 0 (named_of name) ⊎ (WrittenAt (guests_of goal.now) 1 (named_of name) ⊎ WrittenAt (guests_of goal.now) 2 (named_of name))) }
+{
+    if has_bit(dead as u64, name) {
+        is_written(goal, named(name))
+    } else {
+        true
+    }
+}
+
 // Whether the window writes each location with a dead name.
 fn are_written(goal: &Goal, dead: u32) -> bool
     requires { goal.now.count ≤ 3 }
@@ -144,7 +180,7 @@ fn are_written(goal: &Goal, dead: u32) -> bool
         → WrittenAt (guests_of goal.now) 0 (named_of k) ⊎ (WrittenAt (guests_of goal.now) 1 (named_of k) ⊎ WrittenAt (guests_of goal.now) 2 (named_of k))) }
 {
     for name in 0..20 {
-        if dead >> name & 1 == 1 && !is_written(goal, named(name)) {
+        if !is_settled(goal, dead, name) {
             return false;
         }
     }
