@@ -8,3 +8,4 @@ pub mod Printed
 pub mod WordFields
 pub mod ClauseWords
 pub mod Growing
+pub mod Ends

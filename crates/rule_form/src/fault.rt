@@ -24,3 +24,13 @@ impl From<AllocError> for TextFault {
         TextFault::Memory(NoMemory)
     }
 }
+
+impl From<NoMemory> for TextFault {
+    ghost use Rattle.rule_form.specs.Faults.{IsMemory};
+
+    ghost from_gives = { λ _ e. IsMemory e };
+
+    fn from(error: NoMemory) -> TextFault {
+        TextFault::Memory(error)
+    }
+}

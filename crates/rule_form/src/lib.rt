@@ -10,6 +10,8 @@ mod parsing;
 mod printing;
 mod progress;
 mod rows;
+#[cfg(test)]
+mod tests;
 mod window;
 mod writing;
 
