@@ -1,16 +1,17 @@
 -- What a file carries that is written for a program. This project's own.
-use Rattle.std.specs.Prelude.{◌≡◌, ℕ, ◌+◌, ◌*◌, ◌<◌, List, length, slice_index}
+use Rattle.std.specs.Prelude.{◌≡◌, ℕ, ◌+◌, ◌*◌, ◌<◌, List, length, slice_index, Option}
 use Rattle.space.specs.declared.program.Kind.TheVariants.{Ia32}
 use Rattle.space.specs.declared.program.Program.{Program}
+use Rattle.ppc_isa.specs.declared.instr.Instr.{Instr}
 use Rattle.branch_table.specs.declared.code.Code.{Code}
 use Rattle.elf_load.specs.Area.{IsHostArea}
 use Rattle.elf_load.specs.Faults.{IsProgramOf}
 use Rattle.elf_emit.specs.File.{elf_file}
 use Rattle.elf_emit.specs.Translation.{FitsArea, file_segments, translated}
 use Rattle.machines.specs.Files.{Agrees}
+use Rattle.code_layout.specs.Decoded.{AreDecodedAs}
 use Rattle.code_layout.specs.Layout.{IsCodeFor}
 use Rattle.code_words.specs.Words.{HasWords, first_of}
-use Rattle.laid_code.specs.Instance.{AreBuilt}
 use Rattle.upkeep.specs.Loaded.{AreBytes}
 
 -- The code that is laid out for a program over an area: the block of each of its code words with the table of where
@@ -19,10 +20,11 @@ pub record IsLaidFor (P : Program) (area : ℕ) (code : Code) : Type 0 where
   pub words : List ℕ
   pub entry : ℕ
   pub has : HasWords P (first_of P) words
-  pub built : AreBuilt words
+  pub decoded : List (Option Instr)
+  pub are_decoded : AreDecodedAs words decoded
   pub begins : P.entry ≡ first_of P + 4 * entry
   pub within : entry < length words
-  pub blocks : IsCodeFor (first_of P) entry words area code.entries code.bytes
+  pub blocks : IsCodeFor (first_of P) entry decoded area code.entries code.bytes
   pub count : length code.entries ≡ length words
   pub start : code.start ≡ slice_index code.entries entry
   pub fits : FitsArea code

@@ -3,7 +3,7 @@
 
 ghost use Rattle.agreement.specs.Written.{CarryingAgrees};
 
-use laid_code::{blocks_stand, hold_stands};
+use laid_code::{blocks_stand, hold_stands, tables_stand};
 use machines::agrees_if_narrowly;
 use simulation::agrees;
 use upkeep::{all_live_is_enough, has_home, host_keeps_unwritten, loaded_has_bytes, starts};
@@ -18,6 +18,7 @@ pub fn carrying_agrees()
     agrees_if_narrowly();
     blocks_stand();
     hold_stands();
+    tables_stand();
     has_home();
     host_keeps_unwritten();
     all_live_is_enough();

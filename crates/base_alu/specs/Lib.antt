@@ -1,1 +1,9 @@
+pub mod Immediates
+pub mod Arithmetic
+pub mod Shifts
+pub mod Logic
+pub mod Compares
+pub mod Conditions
+pub mod Specials
 pub mod Tile
+pub mod Laws

@@ -1,39 +1,77 @@
--- The tile of each instruction without a flow word or an access (this project's own): the ops that do to the
--- places of its registers what the instruction does to the registers. Results go through eax.
-use Rattle.std.specs.Prelude.{ℕ, ◌<◌, ◌==◌, false, List, [], ◌∷◌, if◌then◌else◌}
+-- The tile of each instruction that is no flow word and has no access (this project's own): ops that do to the places of its
+-- locations, under any register map, what the instruction does to the locations.
+use Rattle.std.specs.Prelude.{List, [], ◌++◌}
+use Rattle.word_kit.specs.Bits.{mask}
 use Rattle.ppc_isa.specs.declared.map.Map.{Map}
 use Rattle.ppc_isa.specs.declared.instr.Instr.{Instr}
-use Rattle.ppc_isa.specs.declared.instr.Instr.TheVariants.{Immediate, Arithmetic}
-use Rattle.ppc_isa.specs.declared.instr.ImmediateOp.TheVariants.{Addi}
-use Rattle.ppc_isa.specs.declared.instr.ArithmeticOp.TheVariants.{Add as AddRegisters}
+use Rattle.symbolic_tiles.specs.declared.symbolic_op.SymbolicOp.{SymbolicOp}
+use Rattle.symbolic_tiles.specs.SymbolicOps.{ops_of}
+use Rattle.symbolic_tiles.specs.Recording.{record_ops}
 use Rattle.ia_codec.specs.declared.op.Op.{Op}
-use Rattle.ia_codec.specs.declared.op.Op.TheVariants.{AluImm, MovTo, MovImm}
-use Rattle.ia_codec.specs.declared.op.Operand.TheVariants.{Reg}
-use Rattle.ia_codec.specs.declared.op.AluOp.TheVariants.{Add}
-use Rattle.reg_map.specs.Registers.{eax}
-use Rattle.reg_map.specs.Place.{place}
-use Rattle.reg_map.specs.Spelled.{mov_from, alu_from}
-use Rattle.reg_map.specs.Words.{sign_extended}
+use Rattle.ppc_isa.specs.declared.instr.Instr.TheVariants as instr
+use Rattle.ppc_isa.specs.Locations.{immediate_records, logic_immediate_records}
+use Rattle.base_alu.specs.Immediates.{immediate_ops, logic_immediate_ops}
+use Rattle.base_alu.specs.Arithmetic.{arithmetic_ops, unary_ops}
+use Rattle.base_alu.specs.Logic.{logic_ops, logic_unary_ops}
+use Rattle.base_alu.specs.Shifts.{srawi_ops, rotate_ops}
+use Rattle.base_alu.specs.Compares.{compare_immediate_ops, compare_ops}
+use Rattle.base_alu.specs.Conditions.{cr_ops, mcrf_ops, mfcr_ops, mtcrf_ops}
+use Rattle.base_alu.specs.Specials.{mfspr_ops, mtspr_ops}
 
--- the instructions that have a tile so far, with register numbers that fit their fields
+-- the instructions without a flow word or an access
 abbrev pub IsBuilt : Instr → Type 0
-IsBuilt (Immediate Addi d a imm) = (d < 32) × (a < 32)
-IsBuilt (Arithmetic AddRegisters d a b false) = (d < 32) × (a < 32) × (b < 32)
+IsBuilt (instr.Immediate op d a imm) = Unit {0}
+IsBuilt (instr.LogicImmediate op s a imm) = Unit {0}
+IsBuilt (instr.Arithmetic op d a b records) = Unit {0}
+IsBuilt (instr.ArithmeticUnary op d a records) = Unit {0}
+IsBuilt (instr.Logic op s a b records) = Unit {0}
+IsBuilt (instr.LogicUnary op s a records) = Unit {0}
+IsBuilt (instr.ShiftImmediate s a by records) = Unit {0}
+IsBuilt (instr.Rotate op s a by mask_begin mask_end records) = Unit {0}
+IsBuilt (instr.CompareImmediate op field a imm) = Unit {0}
+IsBuilt (instr.Compare op field a b) = Unit {0}
+IsBuilt (instr.CrLogic op d a b) = Unit {0}
+IsBuilt (instr.MoveCrField to from) = Unit {0}
+IsBuilt (instr.MoveFromCr d) = Unit {0}
+IsBuilt (instr.MoveToCr s fxm) = Unit {0}
+IsBuilt (instr.MoveFromSpr d spr) = Unit {0}
+IsBuilt (instr.MoveToSpr s spr) = Unit {0}
+IsBuilt instr.Sync = Unit {0}
+IsBuilt instr.Isync = Unit {0}
 IsBuilt _ = ⊥
 
--- addi rD,rA,i: rD is (rA|0) + i
-abbrev pub addi_tile : ℕ → ℕ → ℕ → Map → List Op
-addi_tile d a imm map =
-    if a == 0
-    then MovImm eax (sign_extended 16 imm) ∷ MovTo (place map d) eax ∷ []
-    else mov_from eax (place map a) ∷ AluImm Add (Reg eax) (sign_extended 16 imm) ∷ MovTo (place map d) eax ∷ []
+-- those that have no Rc
+abbrev pub IsWithoutRecord : Instr → Type 0
+IsWithoutRecord (instr.Immediate op d a imm) = ⊥
+IsWithoutRecord (instr.LogicImmediate op s a imm) = ⊥
+IsWithoutRecord (instr.Arithmetic op d a b records) = ⊥
+IsWithoutRecord (instr.ArithmeticUnary op d a records) = ⊥
+IsWithoutRecord (instr.Logic op s a b records) = ⊥
+IsWithoutRecord (instr.LogicUnary op s a records) = ⊥
+IsWithoutRecord (instr.ShiftImmediate s a by records) = ⊥
+IsWithoutRecord (instr.Rotate op s a by mask_begin mask_end records) = ⊥
+IsWithoutRecord _ = Unit {0}
 
--- add rD,rA,rB: rD is rA + rB
-abbrev pub add_tile : ℕ → ℕ → ℕ → Map → List Op
-add_tile d a b map = mov_from eax (place map a) ∷ alu_from Add eax (place map b) ∷ MovTo (place map d) eax ∷ []
+-- Their tiles, told without a map. Where a form records, its result is in eax.
+abbrev pub symbolic_tile : Instr → List SymbolicOp
+symbolic_tile (instr.Immediate op d a imm) = immediate_ops op d a imm ++ record_ops (immediate_records op)
+symbolic_tile (instr.LogicImmediate op s a imm) = logic_immediate_ops op s a imm ++ record_ops (logic_immediate_records op)
+symbolic_tile (instr.Arithmetic op d a b records) = arithmetic_ops op d a b ++ record_ops records
+symbolic_tile (instr.ArithmeticUnary op d a records) = unary_ops op d a ++ record_ops records
+symbolic_tile (instr.Logic op s a b records) = logic_ops op s a b ++ record_ops records
+symbolic_tile (instr.LogicUnary op s a records) = logic_unary_ops op s a ++ record_ops records
+symbolic_tile (instr.ShiftImmediate s a by records) = srawi_ops s a by ++ record_ops records
+symbolic_tile (instr.Rotate op s a by mask_begin mask_end records) = rotate_ops op s a by (mask mask_begin mask_end) ++ record_ops records
+symbolic_tile (instr.CompareImmediate op field a imm) = compare_immediate_ops op field a imm
+symbolic_tile (instr.Compare op field a b) = compare_ops op field a b
+symbolic_tile (instr.CrLogic op d a b) = cr_ops op d a b
+symbolic_tile (instr.MoveCrField to from) = mcrf_ops to from
+symbolic_tile (instr.MoveFromCr d) = mfcr_ops d
+symbolic_tile (instr.MoveToCr s fxm) = mtcrf_ops s fxm
+symbolic_tile (instr.MoveFromSpr d spr) = mfspr_ops d spr
+symbolic_tile (instr.MoveToSpr s spr) = mtspr_ops s spr
+symbolic_tile _ = []
 
--- the tile of an instruction under a map; none where it isn't built
+-- their ops under a map
 abbrev pub tile : Instr → Map → List Op
-tile (Immediate Addi d a imm) map = addi_tile d a imm map
-tile (Arithmetic AddRegisters d a b false) map = add_tile d a b map
-tile _ map = []
+tile i m = ops_of (symbolic_tile i) m

@@ -1,3 +1,5 @@
-pub mod Target
+pub mod Branches
+pub mod Traps
 pub mod SystemCall
 pub mod Tile
+pub mod Laws

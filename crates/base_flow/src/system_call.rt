@@ -1,184 +1,76 @@
 //! The tile of sc: the guest's call by int 0x80.
 
-ghost use Rattle.std.specs.Prelude.{◌≡◌, ◌<◌, IfOk, vec_len};
-ghost use Rattle.reg_map.specs.Home.{gpr_home};
-ghost use Rattle.base_flow.specs.SystemCall.{load, store, set, compare, load_cr0, change_ecx, store_cr0, selection, request, success, failure, sc_tile};
+ghost use Rattle.std.specs.Prelude.{◌≡◌, IfOk};
+ghost use Rattle.base_flow.specs.SystemCall.{selection_items};
 
-use crate::flow_op::{ALWAYS, EQUAL, FlowOp, NOT_BELOW};
-use ia_codec::{AluOp, ExtendOp, Op, Operand, UnaryOp};
-use reg_map::{CR_HOME, EAX, EBX, ECX, EDX, gpr_home};
-use std::alloc::{AllocError, Global};
+use crate::items::Items;
+use ia_codec::{AluOp, Condition};
+use reg_map::{EAX, ECX, EDX};
+use std::alloc::Global;
+use symbolic_tiles::SymbolicOp::{
+    AluImmediate, FetchByte, Mov, MovImmediate, Negate, Put, PutByte,
+};
+use symbolic_tiles::SymbolicOperand::{Location, Temporary};
+use symbolic_tiles::TileItem::{BranchTo, Do, Interrupt, JumpIf, Label, LoadEbx};
 
-/// The mark of the guest's exit_group, which has another number on the host.
-pub const EXIT_GROUP: u8 = 0;
-/// The mark of the call.
-pub const REQUEST: u8 = 1;
-/// The mark where eax has an error's number, negated.
-pub const FAILED: u8 = 2;
-/// The mark where ecx has an error's number.
-pub const ERROR: u8 = 3;
-/// The mark behind both answers.
-pub const DONE: u8 = 4;
+// The label of the guest's exit_group, which has another number on the host.
+const EXIT_GROUP: u8 = 0;
+// The label of the call.
+const REQUEST: u8 = 1;
+// The label where eax has an error's number, negated.
+const FAILED: u8 = 2;
+// The label where ecx has an error's number.
+const ERROR: u8 = 3;
+// The label behind both answers.
+const DONE: u8 = 4;
+// The location of the first field of CR.
+const CR0: u8 = 34;
 
-// The whole tile, with the next instruction's address.
-pub fn system_call(alloc: Global, next: u32) -> Result<Vec<FlowOp>, AllocError>
-    ensures tile { IfOk result (λ ops. ops.items ≡ sc_tile next) }
-    ensures len { IfOk result (λ ops. vec_len ops ≡ 37) }
+/// The tile of sc, with the next instruction's address.
+///
+/// # Errors
+/// Where there is no memory for it.
+#[tactic(auto, unfolding(crate::specs::SystemCall::selection_items, crate::specs::SystemCall::request_items, crate::specs::SystemCall::answer_items, crate::specs::SystemCall::success_items, crate::specs::SystemCall::failure_items, crate::specs::SystemCall::error_items, crate::specs::SystemCall::done_items))]
+pub fn system_call(alloc: Global, next: u32) -> Items
+    ensures { IfOk result (λ items. items.items ≡ selection_items next) }
 {
-    let mut ops = Vec::new(alloc);
-    ops.extend_from_slice(&selection())?;
-    ops.extend_from_slice(&request())?;
-    ops.extend_from_slice(&success())?;
-    ops.extend_from_slice(&failure())?;
-    ops.extend_from_slice(&[FlowOp::Mark(DONE), FlowOp::Edge(next)])?;
-    Ok(ops)
-}
-
-// By the number in r0 to the call, or to the error 38.
-#[tactic(auto, unfolding(crate::specs::SystemCall::selection))]
-fn selection() -> [FlowOp; 13]
-    ensures { result ≡ selection }
-{
-    [
-        load(EAX, 0),
-        compare(234),
-        FlowOp::Jump(EQUAL, EXIT_GROUP),
-        compare(1),
-        FlowOp::Jump(EQUAL, REQUEST),
-        compare(3),
-        FlowOp::Jump(EQUAL, REQUEST),
-        compare(4),
-        FlowOp::Jump(EQUAL, REQUEST),
-        compare(6),
-        FlowOp::Jump(EQUAL, REQUEST),
-        set(ECX, 38),
-        FlowOp::Jump(ALWAYS, ERROR),
-    ]
-}
-
-// The call, with its operands from r3, r4 and r5.
-#[tactic(auto, unfolding(crate::specs::SystemCall::request))]
-fn request() -> [FlowOp; 9]
-    ensures { result ≡ request }
-{
-    [
-        FlowOp::Mark(EXIT_GROUP),
-        set(EAX, 252),
-        FlowOp::Mark(REQUEST),
-        load(EBX, 3),
-        load(ECX, 4),
-        load(EDX, 5),
-        FlowOp::Plain(Op::Int80),
-        compare(0xFFFF_F001),
-        FlowOp::Jump(NOT_BELOW, FAILED),
-    ]
-}
-
-// A result: into r3, with CR0's SO cleared.
-#[tactic(auto, unfolding(crate::specs::SystemCall::success))]
-fn success() -> [FlowOp; 5]
-    ensures { result ≡ success }
-{
-    [
-        store(3, EAX),
-        load_cr0(),
-        change_ecx(AluOp::And, 14),
-        store_cr0(),
-        FlowOp::Jump(ALWAYS, DONE),
-    ]
-}
-
-// An error: its number into r3, with CR0's SO set.
-#[tactic(auto, unfolding(crate::specs::SystemCall::failure))]
-fn failure() -> [FlowOp; 8]
-    ensures { result ≡ failure }
-{
-    [
-        FlowOp::Mark(FAILED),
-        FlowOp::Plain(Op::Unary {
-            op: UnaryOp::Neg,
-            on: Operand::Reg(EAX),
-        }),
-        FlowOp::Plain(Op::MovTo {
-            to: Operand::Reg(ECX),
-            from: EAX,
-        }),
-        FlowOp::Mark(ERROR),
-        store(3, ECX),
-        load_cr0(),
-        change_ecx(AluOp::Or, 1),
-        store_cr0(),
-    ]
-}
-
-// mov register,[gpr]
-fn load(register: u8, gpr: u8) -> FlowOp
-    requires { gpr < 32 }
-    ensures { result ≡ load register (gpr_home gpr) }
-{
-    FlowOp::Plain(Op::MovFrom {
-        to: register,
-        from: Operand::Abs(gpr_home(gpr)),
-    })
-}
-
-// mov [gpr],register
-fn store(gpr: u8, register: u8) -> FlowOp
-    requires { gpr < 32 }
-    ensures { result ≡ store (gpr_home gpr) register }
-{
-    FlowOp::Plain(Op::MovTo {
-        to: Operand::Abs(gpr_home(gpr)),
-        from: register,
-    })
-}
-
-// mov register,imm
-fn set(register: u8, imm: u32) -> FlowOp
-    ensures { result ≡ set register imm }
-{
-    FlowOp::Plain(Op::MovImm { to: register, imm })
-}
-
-// cmp eax,imm
-fn compare(imm: u32) -> FlowOp
-    ensures { result ≡ compare imm }
-{
-    FlowOp::Plain(Op::AluImm {
-        op: AluOp::Cmp,
-        to: Operand::Reg(EAX),
-        imm,
-    })
-}
-
-// movzx ecx,byte [CR0]
-fn load_cr0() -> FlowOp
-    ensures { result ≡ load_cr0 }
-{
-    FlowOp::Plain(Op::Extend {
-        op: ExtendOp::MovzxByte,
-        to: ECX,
-        from: Operand::Abs(CR_HOME),
-    })
-}
-
-// op ecx,mask
-fn change_ecx(op: AluOp, mask: u32) -> FlowOp
-    ensures { result ≡ change_ecx op mask }
-{
-    FlowOp::Plain(Op::AluImm {
-        op,
-        to: Operand::Reg(ECX),
-        imm: mask,
-    })
-}
-
-// mov byte [CR0],cl
-fn store_cr0() -> FlowOp
-    ensures { result ≡ store_cr0 }
-{
-    FlowOp::Plain(Op::MovByteTo {
-        to: Operand::Abs(CR_HOME),
-        from: ECX,
-    })
+    Ok(vec![in alloc;
+        Do(Mov(EAX, Location(0))),
+        Do(AluImmediate(AluOp::Cmp, EAX, 234)),
+        JumpIf(Some(Condition::Equal), EXIT_GROUP),
+        Do(AluImmediate(AluOp::Cmp, EAX, 1)),
+        JumpIf(Some(Condition::Equal), REQUEST),
+        Do(AluImmediate(AluOp::Cmp, EAX, 3)),
+        JumpIf(Some(Condition::Equal), REQUEST),
+        Do(AluImmediate(AluOp::Cmp, EAX, 4)),
+        JumpIf(Some(Condition::Equal), REQUEST),
+        Do(AluImmediate(AluOp::Cmp, EAX, 6)),
+        JumpIf(Some(Condition::Equal), REQUEST),
+        Do(MovImmediate(ECX, 38)),
+        JumpIf(None, ERROR),
+        Label(EXIT_GROUP),
+        Do(MovImmediate(EAX, 252)),
+        Label(REQUEST),
+        LoadEbx(3),
+        Do(Mov(ECX, Location(4))),
+        Do(Mov(EDX, Location(5))),
+        Interrupt,
+        Do(AluImmediate(AluOp::Cmp, EAX, 0xFFFF_F001)),
+        JumpIf(Some(Condition::NotBelow), FAILED),
+        Do(Put(3, EAX)),
+        Do(FetchByte(ECX, CR0)),
+        Do(AluImmediate(AluOp::And, ECX, 14)),
+        Do(PutByte(CR0, ECX)),
+        JumpIf(None, DONE),
+        Label(FAILED),
+        Do(Negate(EAX)),
+        Do(Mov(ECX, Temporary(EAX))),
+        Label(ERROR),
+        Do(Put(3, ECX)),
+        Do(FetchByte(ECX, CR0)),
+        Do(AluImmediate(AluOp::Or, ECX, 1)),
+        Do(PutByte(CR0, ECX)),
+        Label(DONE),
+        BranchTo(next),
+    ]?)
 }

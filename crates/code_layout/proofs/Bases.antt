@@ -1,18 +1,14 @@
 -- The base leaders, found by a word at a time.
-use Rattle.std.proofs.Common.{◌≡◌, ◌≢◌, ◌<◌, ◌≤◌, ℕ, ◌+◌, ◌↔◌, ◌⊎◌, inl, inr, Bool, true, false, Option, Some, None, MatchOption, List, ◌++◌, take, length, get_or, set, slice_index, get_or-set_same, get_or-set_other, ap, sym, ◌∙◌, subst, arith}
+use Rattle.std.proofs.Common.{◌≡◌, ◌≢◌, ◌<◌, ◌≤◌, ℕ, ◌+◌, ◌↔◌, ◌⊎◌, inl, inr, Bool, true, false, Option, Some, None, MatchOption, List, ◌++◌, take, length, get_or, set, get_or-set_same, get_or-set_other, ap, sym, ◌∙◌, subst, arith}
 use Rattle.std.proofs.lemmas.Bool.{cases_order}
 use Rattle.std.proofs.lemmas.Grind.{common_steps}
-use Rattle.ppc_isa.proofs.ReadWords.{one_of}
-use Rattle.ppc_isa.specs.Legal.{IsWordOf}
 use Rattle.ppc_isa.specs.declared.instr.Instr.{Instr}
 use Rattle.code_layout.specs.Blocks.{address_of, IsSet, IsCut}
-use Rattle.ppc_isa.specs.declared.instr.Instr.TheVariants.{Branch}
-use Rattle.base_flow.specs.Target.{branch_target}
-use Rattle.code_layout.specs.Code.{is_flow}
-use Rattle.code_layout.specs.Leaders.{named_address, Marks, IsBaseBy, IsBase, IsLeader}
+use Rattle.code_layout.specs.Decoded.{decoded_at}
+use Rattle.code_layout.specs.Leaders.{ends_block, named_address, Marks, IsBaseBy, IsBase, IsLeader}
 
 -- the base leaders by the first words are set
-abbrev pub Bases : ℕ → ℕ → List ℕ → ℕ → List Bool → Type 0
+abbrev pub Bases : ℕ → ℕ → List (Option Instr) → ℕ → List Bool → Type 0
 Bases first entry words index leaders = (k : ℕ) → k < length words → IsSet leaders k ↔ IsBaseBy first entry words index k
 
 -- the places of P are set, and no others more
@@ -34,7 +30,7 @@ adds_one count n old P within holds only k lt = elim (decide k) [
     decide : (i : ℕ) → (i ≡ n) ⊎ (i ≢ n)
     decide i = elim (cases_order i n) [ inl same ↦ inl same | inr apart ↦ elim apart [ inl less ↦ inr (omega arith) | inr more ↦ inr (omega arith) ] ]
 
-pub one_place : (first : ℕ) (i : Instr) (at k n : ℕ) → named_address first i at ≡ Some (address_of first n) → named_address first i at ≡ Some (address_of first k) → k ≡ n
+pub one_place : (first : ℕ) (i : Option Instr) (at k n : ℕ) → named_address first i at ≡ Some (address_of first n) → named_address first i at ≡ Some (address_of first k) → k ≡ n
 one_place first i at k n here there =
     let same : address_of first n ≡ address_of first k = ap (λ (o : Option ℕ). value o) (sym here ∙ there) in
     omega (arith, same)
@@ -44,7 +40,7 @@ one_place first i at k n here there =
     value _ = 0
 
 -- what the word at an index adds
-pub bases_more : (first entry : ℕ) (words : List ℕ) (index : ℕ) (i : Instr) (old mid new : List Bool) → IsWordOf (slice_index words index) i → Bases first entry words index old → Adds (length words) old mid (λ k. named_address first i index ≡ Some (address_of first k)) → Adds (length words) mid new (λ k. (k ≡ index + 1) × (is_flow i ≡ true)) → Bases first entry words (index + 1) new
+pub bases_more : (first entry : ℕ) (words : List (Option Instr)) (index : ℕ) (i : Option Instr) (old mid new : List Bool) → i ≡ decoded_at words index → Bases first entry words index old → Adds (length words) old mid (λ k. named_address first i index ≡ Some (address_of first k)) → Adds (length words) mid new (λ k. (k ≡ index + 1) × (ends_block i ≡ true)) → Bases first entry words (index + 1) new
 bases_more first entry words index i old mid new spelled bases names behind k lt = (to, from)
   where
     widen : IsBaseBy first entry words index k → IsBaseBy first entry words (index + 1) k
@@ -58,14 +54,14 @@ bases_more first entry words index i old mid new spelled bases names behind k lt
     to set = elim ((behind k lt).0 set) [
       | inl older ↦ elim ((names k lt).0 older) [
         | inl oldest ↦ widen ((bases k lt).0 oldest)
-        | inr leads ↦ here (inl (record { instr = i; spelled = spelled; leads = leads }))
+        | inr leads ↦ here (inl (ap (λ (j : Option Instr). named_address first j index) (sym spelled) ∙ leads))
       ]
-      | inr next ↦ here (inr (next.0, record { instr = i; spelled = spelled; flow = next.1 }))
+      | inr next ↦ here (inr (next.0, ap ends_block (sym spelled) ∙ next.1))
     ]
 
     by_this : Marks first words index k → IsSet new k
-    by_this (inl named) = (behind k lt).1 (inl ((names k lt).1 (inr (subst (λ (j : Instr). named_address first j index ≡ Some (address_of first k)) (one_of (slice_index words index) named.instr i named.spelled spelled) named.leads))))
-    by_this (inr next) = (behind k lt).1 (inr (next.0, subst (λ (j : Instr). is_flow j ≡ true) (one_of (slice_index words index) (next.1).instr i (next.1).spelled spelled) (next.1).flow))
+    by_this (inl named) = (behind k lt).1 (inl ((names k lt).1 (inr (ap (λ (j : Option Instr). named_address first j index) spelled ∙ named))))
+    by_this (inr next) = (behind k lt).1 (inr (next.0, ap ends_block spelled ∙ next.1))
 
     by_older : IsBaseBy first entry words index k → IsSet new k
     by_older base = (behind k lt).1 (inl ((names k lt).1 (inl ((bases k lt).1 base))))
@@ -80,9 +76,10 @@ bases_more first entry words index i old mid new spelled bases names behind k lt
       ]
     ]
 
-pub named_at : (first : ℕ) (r : Option ℕ) (i : Instr) (place count field at : ℕ) (absolute link : Bool) → i ≡ Branch field absolute link → at ≡ branch_target 26 field absolute (address_of first place) → MatchOption r ((k : ℕ) → k < count → at ≢ address_of first k) (λ k. (k < count) × (at ≡ address_of first k)) → MatchOption r ((k : ℕ) → k < count → named_address first i place ≢ Some (address_of first k)) (λ k. (k < count) × (named_address first i place ≡ Some (address_of first k)))
-named_at first (Some k) i place count field at absolute link is aims found = (found.0, ap (λ (j : Instr). named_address first j place) is ∙ ap (λ (a : ℕ). Some a) (sym aims ∙ found.1))
-named_at first None i place count field at absolute link is aims found = λ k lt same. found k lt (aims ∙ ap (λ (o : Option ℕ). value o) (sym (ap (λ (j : Instr). named_address first j place) is) ∙ same))
+-- the place of the address that a word names
+pub named_at : (first : ℕ) (r : Option ℕ) (i : Option Instr) (place count at : ℕ) → named_address first i place ≡ Some at → MatchOption r ((k : ℕ) → k < count → at ≢ address_of first k) (λ k. (k < count) × (at ≡ address_of first k)) → MatchOption r ((k : ℕ) → k < count → named_address first i place ≢ Some (address_of first k)) (λ k. (k < count) × (named_address first i place ≡ Some (address_of first k)))
+named_at first (Some k) i place count at aims found = (found.0, aims ∙ ap (λ (a : ℕ). Some a) found.1)
+named_at first None i place count at aims found = λ k lt same. found k lt (ap value (sym aims ∙ same))
   where
     value : Option ℕ → ℕ
     value (Some v) = v
@@ -103,7 +100,7 @@ cut_same count place P Q same lt cut =
     }
 
 -- the base leaders, cut, are the leaders
-pub leaders_cut : (first entry : ℕ) (words : List ℕ) (index : ℕ) (old new : List Bool) → index ≡ length words → length new ≡ length words → Bases first entry words index old → ((k : ℕ) → k < length new → IsSet new k ↔ IsCut (IsSet old) k) → (k : ℕ) → k < length words → IsSet new k ↔ IsLeader first entry words k
+pub leaders_cut : (first entry : ℕ) (words : List (Option Instr)) (index : ℕ) (old new : List Bool) → index ≡ length words → length new ≡ length words → Bases first entry words index old → ((k : ℕ) → k < length new → IsSet new k ↔ IsCut (IsSet old) k) → (k : ℕ) → k < length words → IsSet new k ↔ IsLeader first entry words k
 leaders_cut first entry words index old new all long bases cuts k lt =
     let by_all : (j : ℕ) → j < length words → IsSet old j ↔ IsBase first entry words j = subst (λ (n : ℕ). (j : ℕ) → j < length words → IsSet old j ↔ IsBaseBy first entry words n j) all bases in
     let back : (j : ℕ) → j < length words → IsBase first entry words j ↔ IsSet old j = λ j under. ((by_all j under).1, (by_all j under).0) in

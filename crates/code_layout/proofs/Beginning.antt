@@ -1,10 +1,12 @@
 -- The addresses at which blocks begin, found by a word at a time.
-use Rattle.std.proofs.Common.{◌≡◌, ◌<◌, ◌≤◌, ◌+◌, ℕ, ◌⊎◌, inl, inr, suc, true, false, List, [], ◌∷◌, length, get_or, set, drop, slice_index, refl, ap, sym, ◌∙◌, subst, drop-cons, arith}
+use Rattle.std.proofs.Common.{◌≡◌, ◌<◌, ◌≤◌, ◌+◌, ℕ, Option, ◌⊎◌, inl, inr, suc, true, false, List, [], ◌∷◌, length, get_or, set, drop, slice_index, refl, ap, sym, ◌∙◌, subst, drop-cons, arith}
 use Rattle.std.proofs.lemmas.Bool.{cases_Bool, false≢true, and_left}
 use Rattle.std.proofs.lemmas.Grind.{common_steps}
 use Rattle.std.proofs.lemmas.List.{drop_all}
-use Rattle.base_flow.specs.declared.flow_op.FlowOp.{FlowOp}
+use Rattle.symbolic_tiles.specs.declared.flow_op.FlowOp.{FlowOp}
+use Rattle.ppc_isa.specs.declared.instr.Instr.{Instr}
 use Rattle.code_layout.specs.Blocks.{begins_at, beginnings}
+use Rattle.code_layout.specs.Places.{no_moves}
 use Rattle.code_layout.specs.Code.{items_length}
 use Rattle.code_layout.specs.Layout.{BeginsAt}
 use Rattle.code_layout.specs.declared.blocks.Laid.{Laid}
@@ -12,10 +14,10 @@ use Rattle.code_layout.proofs.Laid.{AreItemsOf}
 
 -- Of a place, where the order's words before `rest` are passed: the block that begins there is passed and its address
 -- is kept; or it is to come, and the address that it has in the rest it has in the whole.
-abbrev pub Sought : ℕ → List ℕ → ℕ → ℕ → List Laid → List Laid → List ℕ → ℕ → Type 0
+abbrev pub Sought : ℕ → List (Option Instr) → ℕ → ℕ → List Laid → List Laid → List ℕ → ℕ → Type 0
 Sought first words begin at order rest entries k =
-    ((beginnings k rest ≡ 0) × BeginsAt first words begin order k (slice_index entries k))
-    ⊎ ((beginnings k rest ≡ 1) × ((address : ℕ) → BeginsAt first words at rest k address → BeginsAt first words begin order k address))
+    ((beginnings k rest ≡ 0) × BeginsAt first words no_moves begin order k (slice_index entries k))
+    ⊎ ((beginnings k rest ≡ 1) × ((address : ℕ) → BeginsAt first words no_moves at rest k address → BeginsAt first words no_moves begin order k address))
 
 -- where the block at a place begins with this word its address is kept, and all else stays
 pub record Keeps (laid : Laid) (at : ℕ) (old new : List ℕ) (k : ℕ) : Type 0 where
@@ -30,29 +32,29 @@ counted-other : (laid : Laid) (rest : List Laid) (k : ℕ) → begins_at k laid 
 unfolding beginnings
 counted-other laid rest k elsewhere = rw elsewhere refl
 
-begins-here : (first : ℕ) (words : List ℕ) (at : ℕ) (laid : Laid) (rest : List Laid) (k : ℕ) → begins_at k laid ≡ true → BeginsAt first words at (laid ∷ rest) k at
+begins-here : (first : ℕ) (words : List (Option Instr)) (at : ℕ) (laid : Laid) (rest : List Laid) (k : ℕ) → begins_at k laid ≡ true → BeginsAt first words no_moves at (laid ∷ rest) k at
 unfolding BeginsAt
 begins-here first words at laid rest k here = inl (here, refl)
 
-begins-behind : (first : ℕ) (words : List ℕ) (at next : ℕ) (laid : Laid) (rest : List Laid) (its : List FlowOp) (k address : ℕ) → begins_at k laid ≡ false → AreItemsOf first words laid its → next ≡ at + items_length its → BeginsAt first words next rest k address → BeginsAt first words at (laid ∷ rest) k address
+begins-behind : (first : ℕ) (words : List (Option Instr)) (at next : ℕ) (laid : Laid) (rest : List Laid) (its : List FlowOp) (k address : ℕ) → begins_at k laid ≡ false → AreItemsOf first words laid its → next ≡ at + items_length no_moves its → BeginsAt first words no_moves next rest k address → BeginsAt first words no_moves at (laid ∷ rest) k address
 unfolding BeginsAt
 begins-behind first words at next laid rest its k address elsewhere of behind h =
-    inr (elsewhere, (of.0, of.1, subst (λ (n : ℕ). BeginsAt first words n rest k address) (behind ∙ ap (λ (x : List FlowOp). at + items_length x) of.2) h))
+    inr (elsewhere, subst (λ (n : ℕ). BeginsAt first words no_moves n rest k address) (behind ∙ ap (λ (x : List FlowOp). at + items_length no_moves x) of) h)
 
-sought-here : (first : ℕ) (words : List ℕ) (begin at next : ℕ) (order : List Laid) (laid : Laid) (rest : List Laid) (old new : List ℕ) (k : ℕ) → begins_at k laid ≡ true → Keeps laid at old new k → Sought first words begin at order (laid ∷ rest) old k → Sought first words begin next order rest new k
+sought-here : (first : ℕ) (words : List (Option Instr)) (begin at next : ℕ) (order : List Laid) (laid : Laid) (rest : List Laid) (old new : List ℕ) (k : ℕ) → begins_at k laid ≡ true → Keeps laid at old new k → Sought first words begin at order (laid ∷ rest) old k → Sought first words begin next order rest new k
 sought-here first words begin at next order laid rest old new k here keeps (inl passed) = absurd (let none = passed.0 in omega (arith, none, counted-here laid rest k here))
 sought-here first words begin at next order laid rest old new k here keeps (inr coming) =
     let one : beginnings k (laid ∷ rest) ≡ 1 = coming.0 in
-    inl (omega (arith, one, counted-here laid rest k here), subst (λ (a : ℕ). BeginsAt first words begin order k a) (sym (keeps.here here)) (coming.1 at (begins-here first words at laid rest k here)))
+    inl (omega (arith, one, counted-here laid rest k here), subst (λ (a : ℕ). BeginsAt first words no_moves begin order k a) (sym (keeps.here here)) (coming.1 at (begins-here first words at laid rest k here)))
 
-sought-other : (first : ℕ) (words : List ℕ) (begin at next : ℕ) (order : List Laid) (laid : Laid) (rest : List Laid) (its : List FlowOp) (old new : List ℕ) (k : ℕ) → begins_at k laid ≡ false → AreItemsOf first words laid its → next ≡ at + items_length its → Keeps laid at old new k → Sought first words begin at order (laid ∷ rest) old k → Sought first words begin next order rest new k
+sought-other : (first : ℕ) (words : List (Option Instr)) (begin at next : ℕ) (order : List Laid) (laid : Laid) (rest : List Laid) (its : List FlowOp) (old new : List ℕ) (k : ℕ) → begins_at k laid ≡ false → AreItemsOf first words laid its → next ≡ at + items_length no_moves its → Keeps laid at old new k → Sought first words begin at order (laid ∷ rest) old k → Sought first words begin next order rest new k
 sought-other first words begin at next order laid rest its old new k elsewhere of behind keeps (inl passed) =
-    inl (sym (counted-other laid rest k elsewhere) ∙ passed.0, subst (λ (a : ℕ). BeginsAt first words begin order k a) (sym (keeps.other elsewhere)) passed.1)
+    inl (sym (counted-other laid rest k elsewhere) ∙ passed.0, subst (λ (a : ℕ). BeginsAt first words no_moves begin order k a) (sym (keeps.other elsewhere)) passed.1)
 sought-other first words begin at next order laid rest its old new k elsewhere of behind keeps (inr coming) =
     inr (sym (counted-other laid rest k elsewhere) ∙ coming.0, λ address h. coming.1 address (begins-behind first words at next laid rest its k address elsewhere of behind h))
 
 -- what one more word of the order adds
-pub sought-more : (first : ℕ) (words : List ℕ) (begin at next index : ℕ) (order : List Laid) (d : Laid) (its : List FlowOp) (old new : List ℕ) (k : ℕ) → index < length order → AreItemsOf first words (get_or order index d) its → next ≡ at + items_length its → Keeps (get_or order index d) at old new k → Sought first words begin at order (drop index order) old k → Sought first words begin next order (drop (index + 1) order) new k
+pub sought-more : (first : ℕ) (words : List (Option Instr)) (begin at next index : ℕ) (order : List Laid) (d : Laid) (its : List FlowOp) (old new : List ℕ) (k : ℕ) → index < length order → AreItemsOf first words (get_or order index d) its → next ≡ at + items_length no_moves its → Keeps (get_or order index d) at old new k → Sought first words begin at order (drop index order) old k → Sought first words begin next order (drop (index + 1) order) new k
 sought-more first words begin at next index order d its old new k lt of behind keeps sought =
     let laid : Laid = get_or order index d in
     let suc_is : suc index ≡ index + 1 = omega arith in
@@ -63,14 +65,14 @@ sought-more first words begin at next index order d its old new k lt of behind k
       | inr elsewhere ↦ sought-other first words begin at next order laid (drop (index + 1) order) its old new k elsewhere of behind keeps now
     ]
 
-pub sought-first : (first : ℕ) (words : List ℕ) (begin : ℕ) (order : List Laid) (entries : List ℕ) (k : ℕ) → beginnings k order ≡ 1 → Sought first words begin begin order order entries k
+pub sought-first : (first : ℕ) (words : List (Option Instr)) (begin : ℕ) (order : List Laid) (entries : List ℕ) (k : ℕ) → beginnings k order ≡ 1 → Sought first words begin begin order order entries k
 sought-first first words begin order entries k once = inr (once, λ address h. h)
 
 none-begins : (k : ℕ) → beginnings k [] ≡ 0
 unfolding beginnings
 none-begins k = refl
 
-pub sought-all : (first : ℕ) (words : List ℕ) (begin at index : ℕ) (order : List Laid) (entries : List ℕ) (k : ℕ) → length order ≤ index → Sought first words begin at order (drop index order) entries k → BeginsAt first words begin order k (slice_index entries k)
+pub sought-all : (first : ℕ) (words : List (Option Instr)) (begin at index : ℕ) (order : List Laid) (entries : List ℕ) (k : ℕ) → length order ≤ index → Sought first words begin at order (drop index order) entries k → BeginsAt first words no_moves begin order k (slice_index entries k)
 sought-all first words begin at index order entries k le (inl passed) = passed.1
 sought-all first words begin at index order entries k le (inr coming) =
     absurd (let one : beginnings k (drop index order) ≡ 1 = coming.0 in let none : beginnings k (drop index order) ≡ 0 = ap (λ (o : List Laid). beginnings k o) (drop_all index order le) ∙ none-begins k in omega (arith, one, none))

@@ -1,49 +1,51 @@
 -- Words that are laid out one behind another.
-use Rattle.std.proofs.Common.{◌≡◌, ◌≤◌, ◌<◌, ◌+◌, ◌↔◌, ℕ, suc, Bool, List, [], ◌∷◌, ◌++◌, length, get_or, drop, slice_index, refl, ap, sym, ◌∙◌, subst, append_assoc, drop-cons, arith}
+use Rattle.std.proofs.Common.{◌≡◌, ◌≤◌, ◌<◌, ◌+◌, ◌↔◌, ℕ, suc, Bool, List, ◌∷◌, ◌++◌, length, get_or, drop, slice_index, Option, ap, sym, ◌∙◌, subst, append_assoc, drop-cons, arith}
 use Rattle.std.proofs.lemmas.List.{append-nil, drop_all}
-use Rattle.ppc_isa.specs.Legal.{IsWordOf}
 use Rattle.ppc_isa.specs.declared.instr.Instr.{Instr}
-use Rattle.base_flow.specs.declared.flow_op.FlowOp.{FlowOp}
+use Rattle.symbolic_tiles.specs.declared.flow_op.FlowOp.{FlowOp}
 use Rattle.code_layout.specs.Blocks.{address_of, IsSet, code_order}
-use Rattle.code_layout.specs.Code.{items, items_bytes, items_length, entry_of}
+use Rattle.code_layout.specs.Decoded.{decoded_at}
+use Rattle.code_layout.specs.Places.{Places, no_moves, places_in}
+use Rattle.code_layout.specs.Code.{items, items_bytes, items_length}
 use Rattle.code_layout.specs.Leaders.{IsLeader}
-use Rattle.code_layout.specs.Layout.{IsLaidOut, IsCodeOf, IsCodeFor, BeginsAt}
+use Rattle.code_layout.specs.Layout.{laid_items, laid_bytes, code_bytes, IsCodeFor, BeginsAt}
 use Rattle.code_layout.specs.declared.blocks.Laid.{Laid}
 
 -- the items are those of the word at a laid word's place
-abbrev pub AreItemsOf : ℕ → List ℕ → Laid → List FlowOp → Type 0
-AreItemsOf first words laid its = (i : Instr) × IsWordOf (slice_index words laid.place) i × (its ≡ items i (address_of first laid.place) laid.ends)
+abbrev pub AreItemsOf : ℕ → List (Option Instr) → Laid → List FlowOp → Type 0
+AreItemsOf first words laid its = its ≡ laid_items first words laid
 
-pub items-at : (first : ℕ) (words : List ℕ) (laid : Laid) (its : List FlowOp) (at : ℕ) → at ≡ address_of first laid.place → ((i : Instr) × IsWordOf (slice_index words laid.place) i × (its ≡ items i at laid.ends)) → AreItemsOf first words laid its
-items-at first words laid its at here of = (of.0, of.1, of.2 ∙ ap (λ (a : ℕ). items of.0 a laid.ends) here)
+pub items-at : (first : ℕ) (words : List (Option Instr)) (laid : Laid) (word : Option Instr) (its : List FlowOp) (at : ℕ) → at ≡ address_of first laid.place → word ≡ decoded_at words laid.place → its ≡ items word at laid.ends → AreItemsOf first words laid its
+items-at first words laid word its at here is of = of ∙ ap (λ (a : ℕ). items word a laid.ends) here ∙ ap (λ (o : Option Instr). items o (address_of first laid.place) laid.ends) is
 
-laid-cons : (first : ℕ) (words : List ℕ) (area : ℕ) (targets : ℕ → ℕ) (here next : ℕ) (laid : Laid) (order : List Laid) (its : List FlowOp) (rest : List ℕ) → AreItemsOf first words laid its → next ≡ here + items_length its → IsLaidOut first words area targets next order rest → IsLaidOut first words area targets here (laid ∷ order) (items_bytes area targets here its ++ rest)
-unfolding IsLaidOut
-laid-cons first words area targets here next laid order its rest of at h =
-    (of.0, of.1, (rest, ap (λ (x : List FlowOp). items_bytes area targets here x ++ rest) of.2, subst (λ (n : ℕ). IsLaidOut first words area targets n order rest) (at ∙ ap (λ (x : List FlowOp). here + items_length x) of.2) h))
+laid-drop : (words : List (Option Instr)) (p : Places) (here k : ℕ) (order : List Laid) (d : Laid) → k < length order → laid_bytes words p here (drop k order) ≡ items_bytes p here (laid_items p.first words (get_or order k d)) ++ laid_bytes words p (here + items_length p.switch (laid_items p.first words (get_or order k d))) (drop (k + 1) order)
+unfolding laid_bytes
+laid-drop words p here k order d lt =
+    let next : suc k ≡ k + 1 = omega arith in
+    ap (λ (o : List Laid). laid_bytes words p here o) (drop-cons order k d lt ∙ ap (λ (j : ℕ). get_or order k d ∷ drop j order) next)
 
-pub laid-more : (P : List ℕ → Type 0) (first : ℕ) (words : List ℕ) (area : ℕ) (targets : ℕ → ℕ) (begin n m k : ℕ) (order : List Laid) (d : Laid) (its : List FlowOp) (old new : List ℕ) → k < length order → AreItemsOf first words (get_or order k d) its → new ≡ old ++ items_bytes area targets (begin + n) its → m ≡ n + items_length its → ((tail : List ℕ) → IsLaidOut first words area targets (begin + n) (drop k order) tail → P (old ++ tail)) → (tail : List ℕ) → IsLaidOut first words area targets (begin + m) (drop (k + 1) order) tail → P (new ++ tail)
-laid-more P first words area targets begin n m k order d its old new lt of made long so tail h =
-    let here : ℕ = begin + n in
-    let rest : List Laid = drop (k + 1) order in
-    let next : begin + m ≡ here + items_length its = omega (arith, long) in
-    let suc_is : suc k ≡ k + 1 = omega arith in
-    let cut : drop k order ≡ get_or order k d ∷ rest = drop-cons order k d lt ∙ ap (λ (j : ℕ). get_or order k d ∷ drop j order) suc_is in
-    let laid : IsLaidOut first words area targets here (get_or order k d ∷ rest) (items_bytes area targets here its ++ tail) = laid-cons first words area targets here (begin + m) (get_or order k d) rest its tail of next h in
-    let whole : P (old ++ (items_bytes area targets here its ++ tail)) = so (items_bytes area targets here its ++ tail) (subst (λ (o : List Laid). IsLaidOut first words area targets here o (items_bytes area targets here its ++ tail)) (sym cut) laid) in
-    subst P (sym (ap (λ (x : List ℕ). x ++ tail) made ∙ append_assoc old (items_bytes area targets here its) tail)) whole
+-- what stands already, and the words that are left, are the whole
+pub laid-more : (words : List (Option Instr)) (p : Places) (begin n m k : ℕ) (order : List Laid) (d : Laid) (its : List FlowOp) (old new whole : List ℕ) → k < length order → AreItemsOf p.first words (get_or order k d) its → new ≡ old ++ items_bytes p (begin + n) its → m ≡ n + items_length p.switch its → old ++ laid_bytes words p (begin + n) (drop k order) ≡ whole → new ++ laid_bytes words p (begin + m) (drop (k + 1) order) ≡ whole
+laid-more words p begin n m k order d its old new whole lt of made long so =
+    let there : begin + m ≡ begin + n + items_length p.switch its = omega (arith, long) in
+    let rest : List FlowOp → List ℕ = λ x. laid_bytes words p (begin + n + items_length p.switch x) (drop (k + 1) order) in
+    ap (λ (x : List ℕ). x ++ laid_bytes words p (begin + m) (drop (k + 1) order)) made
+    ∙ ap (λ (a : ℕ). (old ++ items_bytes p (begin + n) its) ++ laid_bytes words p a (drop (k + 1) order)) there
+    ∙ append_assoc old (items_bytes p (begin + n) its) (rest its)
+    ∙ ap (λ (x : List FlowOp). old ++ (items_bytes p (begin + n) x ++ rest x)) of
+    ∙ ap (λ (x : List ℕ). old ++ x) (sym (laid-drop words p (begin + n) k order d lt))
+    ∙ so
 
-pub laid-all : (P : List ℕ → Type 0) (first : ℕ) (words : List ℕ) (area : ℕ) (targets : ℕ → ℕ) (here k : ℕ) (order : List Laid) (bytes : List ℕ) → length order ≤ k → ((tail : List ℕ) → IsLaidOut first words area targets here (drop k order) tail → P (bytes ++ tail)) → P bytes
-unfolding IsLaidOut
-laid-all P first words area targets here k order bytes le so =
-    subst P (append-nil bytes) (so [] (subst (λ (o : List Laid). IsLaidOut first words area targets here o []) (sym (drop_all k order le)) refl))
+pub laid-all : (words : List (Option Instr)) (p : Places) (here k : ℕ) (order : List Laid) (bytes whole : List ℕ) → length order ≤ k → bytes ++ laid_bytes words p here (drop k order) ≡ whole → bytes ≡ whole
+unfolding laid_bytes
+laid-all words p here k order bytes whole le so = sym (append-nil bytes) ∙ ap (λ (o : List Laid). bytes ++ laid_bytes words p here o) (sym (drop_all k order le)) ∙ so
 
 -- the code is laid out in the order that the leaders make, and the table leads to its blocks
-pub code-for : (first entry : ℕ) (words : List ℕ) (area begin : ℕ) (table entries code : List ℕ) (leaders leaders' : List Bool) (order order' order'' : List Laid) → length leaders ≡ length words → ((k : ℕ) → k < length words → IsSet leaders k ↔ IsLeader first entry words k) → leaders' ≡ leaders → order ≡ code_order leaders' → order' ≡ order → order'' ≡ order → entries ≡ table → begin ≡ area + 0x81000 → IsCodeOf first words area (entry_of first entries begin) begin order' code → ((k : ℕ) → k < length words → BeginsAt first words (begin + 5) order'' k (slice_index table k)) → IsCodeFor first entry words area table code
-code-for first entry words area begin table entries code leaders leaders' order order' order'' count each e0 e1 e2 e3 e4 e5 laid begins = record {
+pub code-for : (first entry : ℕ) (words : List (Option Instr)) (area : ℕ) (p : Places) (table code : List ℕ) (leaders leaders' : List Bool) (order order' order'' : List Laid) → length leaders ≡ length words → ((k : ℕ) → k < length words → IsSet leaders k ↔ IsLeader first entry words k) → leaders' ≡ leaders → order ≡ code_order leaders' → order' ≡ order → order'' ≡ order → p ≡ places_in area first table → code ≡ code_bytes words p order' → ((k : ℕ) → k < length words → BeginsAt first words no_moves (area + 0x81000 + 5) order'' k (slice_index table k)) → IsCodeFor first entry words area table code
+code-for first entry words area p table code leaders leaders' order order' order'' count each e0 e1 e2 e3 e4 laid begins = record {
   leaders = leaders;
   count = count;
   each = each;
-  laid = rw (← e0, ← e1, ← e2, ← e4, ← e5) laid;
-  entries = rw (← e0, ← e1, ← e3, ← e5) begins;
+  laid = subst (λ (q : Places). code ≡ code_bytes words q (code_order leaders)) e4 (rw (← e0, ← e1, ← e2) laid);
+  entries = rw (← e0, ← e1, ← e3) begins;
 }

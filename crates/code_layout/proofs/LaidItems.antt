@@ -1,124 +1,70 @@
 -- Every item of a built instruction is laid out.
-use Rattle.std.proofs.Common.{ℕ, zero, suc, ◌≡◌, ◌<◌, ◌^◌, ◌*◌, eqb, Bool, true, false, cond, List, [], ◌∷◌, ◌++◌, map, length, get_or, All, arith, rules, refl, sym, subst, Result, Ok, Err, Vec, Global, IfOk}
-use Rattle.std.proofs.lemmas.Grind.{common_steps}
+use Rattle.std.proofs.Common.{ℕ, zero, suc, ◌≡◌, Bool, true, false, cond, List, [], ◌∷◌, ◌++◌, map, All, arith, refl, sym, subst, Option, Some, None, Result, Ok, Err, Vec, Global, IfOk}
 use Rattle.std.proofs.lemmas.List.{append-nil}
-use Rattle.ppc_isa.specs.Legal.{IsLegal, IsWordOf}
+use Rattle.std.proofs.lemmas.List.Elements.{All-head, All-tail}
+use Rattle.ppc_isa.specs.Legal.{IsLegal}
 use Rattle.ppc_isa.specs.declared.instr.Instr.{Instr}
-use Rattle.ppc_isa.specs.declared.instr.Instr.TheVariants.{Immediate, Arithmetic, Branch, SystemCall}
-use Rattle.ppc_isa.specs.declared.instr.ImmediateOp.TheVariants.{Addi}
-use Rattle.ppc_isa.specs.declared.instr.ArithmeticOp.TheVariants.{Add}
-use Rattle.reg_map.specs.Words.{sign_extended}
-use Rattle.base_flow.specs.SystemCall.{selection, request, success, failure, sc_tile}
-use Rattle.base_flow.specs.Target.{next_address}
-use Rattle.base_flow.specs.declared.flow_op.FlowOp.{FlowOp}
-use Rattle.base_flow.specs.declared.flow_op.FlowOp.TheVariants.{Plain, Edge}
-use Rattle.code_layout.specs.Built.{IsBuilt}
 use Rattle.ia_codec.specs.declared.op.Op.{Op}
-use Rattle.ia_codec.specs.declared.op.Op.TheVariants.{MovImm, MovTo, MovFrom, AluImm, AluFrom}
-use Rattle.ia_codec.specs.declared.op.Operand.TheVariants.{Reg, Abs}
-use Rattle.ia_codec.specs.declared.op.AluOp.TheVariants.{Add as Sum}
-use Rattle.base_alu.specs.Tile.{tile as alu_tile}
-use Rattle.code_layout.specs.Code.{IsLaid, items, is_flow, no_registers}
+use Rattle.ia_codec.specs.declared.op.Op.TheVariants.{Ud2}
+use Rattle.machines.specs.Guest.{behind as next_address}
+use Rattle.symbolic_tiles.specs.declared.flow_op.FlowOp.{FlowOp}
+use Rattle.symbolic_tiles.specs.declared.flow_op.FlowOp.TheVariants.{Plain, Jump, Mark, Edge, Leap}
+use Rattle.row_laws.specs.FlowWords.{is_flow}
+use Rattle.symbolic_tiles.specs.Marks.{AreLaid}
+use Rattle.code_layout.proofs.StraightTiles.{tiles_are_placeable}
+use Rattle.base_flow.specs.Tile.{tile as flow_tile}
+use Rattle.base_flow.proofs.Tiles.{flow_tiles_are_laid}
+use Rattle.code_layout.specs.Decoded.{IsLegalDecoded}
+use Rattle.code_layout.specs.Places.{no_registers}
+use Rattle.code_layout.specs.Code.{word_ops, IsPlaceable, IsLaid, straight, items}
+use Rattle.code_layout.proofs.BuiltWords.{is_map, straight_word, has_tile}
 
-EachLaid : List FlowOp → Type 0
-EachLaid [] = Unit {0}
-EachLaid (x ∷ xs) = IsLaid x × EachLaid xs
+items-hold : (items : List FlowOp) → AreLaid items → All IsLaid items
+items-hold [] h k d lt = absurd (omega arith)
+items-hold (Plain op ∷ items) h zero d lt = h.0
+items-hold (Jump code mark ∷ items) h zero d lt = tt
+items-hold (Mark mark ∷ items) h zero d lt = tt
+items-hold (Edge target ∷ items) h zero d lt = tt
+items-hold (Leap ∷ items) h zero d lt = tt
+items-hold (item ∷ items) h (suc k) d lt = items-hold items h.1 k d (omega arith)
 
-at-place : (xs : List FlowOp) → EachLaid xs → (k : ℕ) (d : FlowOp) → k < length xs → IsLaid (get_or xs k d)
-unfolding EachLaid
-at-place [] h k d lt = absurd (omega arith)
-at-place (x ∷ xs) h zero d lt = h.0
-at-place (x ∷ xs) h (suc k) d lt = at-place xs h.1 k d (omega arith)
+-- ops that can be spelled, and an edge behind them
+plain-hold : (ops : List Op) (rest : List FlowOp) → All IsPlaceable ops → All IsLaid rest → All IsLaid (map (λ op. Plain op) ops ++ rest)
+plain-hold [] rest h r k d lt = r k d lt
+plain-hold (op ∷ ops) rest h r zero d lt = All-head IsPlaceable op ops h
+plain-hold (op ∷ ops) rest h r (suc k) d lt = plain-hold ops rest (All-tail IsPlaceable op ops h) r k d (omega arith)
 
-all-laid : (xs : List FlowOp) → EachLaid xs → All IsLaid xs
-all-laid xs h = λ k d lt. at-place xs h k d lt
+edge-holds : (ends : Bool) (next : ℕ) → All IsLaid (cond ends (Edge next ∷ []) [])
+edge-holds true next zero d lt = tt
+edge-holds true next (suc k) d lt = absurd (omega arith)
+edge-holds false next k d lt = absurd (omega arith)
 
-laid-append : (xs ys : List FlowOp) → EachLaid xs → EachLaid ys → EachLaid (xs ++ ys)
-unfolding EachLaid
-laid-append [] ys p q = q
-laid-append (x ∷ xs) ys p q = (p.0, laid-append xs ys p.1 q)
-
-laid-selection : EachLaid selection
-unfolding EachLaid selection
-laid-selection = search rules
-
-laid-request : EachLaid request
-unfolding EachLaid request
-laid-request = search rules
-
-laid-success : EachLaid success
-unfolding EachLaid success
-laid-success = search rules
-
-laid-failure : EachLaid failure
-unfolding EachLaid failure
-laid-failure = search rules
-
-laid-edge : (next : ℕ) → EachLaid (Edge next ∷ [])
-unfolding EachLaid
-laid-edge next = (tt, tt)
-
-laid-sc : (next : ℕ) → EachLaid (sc_tile next)
-unfolding EachLaid
-laid-sc next = laid-append selection _ laid-selection (laid-append request _ laid-request (laid-append success _ laid-success (laid-append failure _ laid-failure (tt, (tt, tt)))))
-
-signed-word : (imm : ℕ) → imm < 2 ^ 16 → sign_extended 16 imm < 2 ^ 32
-signed-word imm lt = grind (arith, common_steps)
+all-laid : (i : Instr) (at : ℕ) (ends : Bool) → IsLegal i → All IsLaid (items (Some i) at ends)
+all-laid i at ends legal = by_flow (is_flow i) refl
+  where
+    by_flow : (b : Bool) → is_flow i ≡ b → All IsLaid (cond b (flow_tile i at no_registers) (straight i at ends))
+    by_flow true e = items-hold (flow_tile i at no_registers) (flow_tiles_are_laid i no_registers at legal is_map (has_tile i e))
+    by_flow false e = plain-hold (word_ops i no_registers) _ (tiles_are_placeable i no_registers legal (straight_word i e) is_map) (edge-holds ends (next_address at))
 
 -- the ops of a word that is no flow word, with the edge behind them
-pub items-edge : (i : Instr) (at next : ℕ) (ends : Bool) (ops : List Op) (flow : List FlowOp) → is_flow i ≡ false → ends ≡ true → next ≡ next_address at → ops ≡ alu_tile i no_registers → flow ≡ map (λ op. Plain op) ops → flow ++ Edge next ∷ [] ≡ items i at ends
+pub items-edge : (i : Instr) (at next : ℕ) (ends : Bool) (ops : List Op) (flow : List FlowOp) → is_flow i ≡ false → ends ≡ true → next ≡ next_address at → ops ≡ word_ops i no_registers → flow ≡ map (λ op. Plain op) ops → flow ++ Edge next ∷ [] ≡ items (Some i) at ends
 items-edge i at next ends ops flow straight_on last here made plain = rw (straight_on, last, here, plain, made) refl
 
-pub items-inside : (i : Instr) (at : ℕ) (ends : Bool) (ops : List Op) (flow : List FlowOp) → is_flow i ≡ false → ends ≡ false → ops ≡ alu_tile i no_registers → flow ≡ map (λ op. Plain op) ops → flow ≡ items i at ends
+pub items-inside : (i : Instr) (at : ℕ) (ends : Bool) (ops : List Op) (flow : List FlowOp) → is_flow i ≡ false → ends ≡ false → ops ≡ word_ops i no_registers → flow ≡ map (λ op. Plain op) ops → flow ≡ items (Some i) at ends
 items-inside i at ends ops flow straight_on inside made plain = rw (straight_on, inside, plain, made) (sym (append-nil _))
 
-laid-choice : (b : Bool) (xs ys : List FlowOp) → EachLaid xs → EachLaid ys → EachLaid (cond b xs ys)
-laid-choice true xs ys p q = p
-laid-choice false xs ys p q = q
+illegal-laid : All IsLaid (Plain Ud2 ∷ [])
+illegal-laid zero d lt = λ area low. tt
+illegal-laid (suc k) d lt = absurd (omega arith)
 
-plain-choice : (b : Bool) (xs ys : List Op) → EachLaid (map (λ op. Plain op) xs) → EachLaid (map (λ op. Plain op) ys) → EachLaid (map (λ op. Plain op) (cond b xs ys))
-plain-choice true xs ys p q = p
-plain-choice false xs ys p q = q
+each-laid : (word : Option Instr) (at : ℕ) (ends : Bool) → IsLegalDecoded word → All IsLaid (items word at ends)
+each-laid (Some i) at ends legal = all-laid i at ends legal
+each-laid None at ends built = illegal-laid
 
-laid-set : (d i : ℕ) → d < 32 → i < 2 ^ 32 → EachLaid (Plain (MovImm 0 i) ∷ Plain (MovTo (Abs (4 * d)) 0) ∷ [])
-unfolding EachLaid
-laid-set d i d-is i-is = search rules
+-- every item of a built word is laid out
+pub items-laid : (word : Option Instr) (at : ℕ) (ends : Bool) (made : List FlowOp) → IsLegalDecoded word → made ≡ items word at ends → All IsLaid made
+items-laid word at ends made built e = subst (λ (xs : List FlowOp). All IsLaid xs) (sym e) (each-laid word at ends built)
 
-laid-sum : (d a i : ℕ) → d < 32 → a < 32 → i < 2 ^ 32 → EachLaid (Plain (MovFrom 0 (Abs (4 * a))) ∷ Plain (AluImm Sum (Reg 0) i) ∷ Plain (MovTo (Abs (4 * d)) 0) ∷ [])
-unfolding EachLaid
-laid-sum d a i d-is a-is i-is = search rules
-
-laid-add_three : (d a b : ℕ) → d < 32 → a < 32 → b < 32 → EachLaid (Plain (MovFrom 0 (Abs (4 * a))) ∷ Plain (AluFrom Sum 0 (Abs (4 * b))) ∷ Plain (MovTo (Abs (4 * d)) 0) ∷ [])
-unfolding EachLaid
-laid-add_three d a b d-is a-is b-is = search rules
-
-laid-tail : (ends : Bool) (next : ℕ) → EachLaid (cond ends (Edge next ∷ []) [])
-unfolding EachLaid
-laid-tail true next = (tt, tt)
-laid-tail false next = tt
-
-laid-addi : (d a imm at : ℕ) (ends : Bool) → IsLegal (Immediate Addi d a imm) → EachLaid (items (Immediate Addi d a imm) at ends)
-laid-addi d a imm at ends legal =
-    let d-is : d < 32 = omega (arith, legal.fit.1.0) in
-    let a-is : a < 32 = omega (arith, legal.fit.1.1.0) in
-    let i-is : sign_extended 16 imm < 2 ^ 32 = signed-word imm legal.fit.1.1.1.0 in
-    laid-append _ _ (plain-choice (eqb a 0) _ _ (laid-set d _ d-is i-is) (laid-sum d a _ d-is a-is i-is)) (laid-tail ends _)
-
-laid-add : (d a b at : ℕ) (ends : Bool) → IsLegal (Arithmetic Add d a b false) → EachLaid (items (Arithmetic Add d a b false) at ends)
-laid-add d a b at ends legal =
-    laid-append _ _ (laid-add_three d a b (omega (arith, legal.fit.1.0)) (omega (arith, legal.fit.1.1.0)) (omega (arith, legal.fit.1.1.1.0))) (laid-tail ends _)
-
-each-laid : (i : Instr) (at : ℕ) (ends : Bool) → IsBuilt i → IsLegal i → EachLaid (items i at ends)
-each-laid (Immediate Addi d a imm) at ends built legal = laid-addi d a imm at ends legal
-each-laid (Arithmetic Add d a b false) at ends built legal = laid-add d a b at ends legal
-each-laid (Branch target absolute false) at ends built legal = laid-edge _
-each-laid SystemCall at ends built legal = laid-sc (next_address at)
-each-laid _ at ends built legal = absurd built
-
--- every item of a built instruction is laid out
-pub items-laid : (i : Instr) (at : ℕ) (ends : Bool) (made : List FlowOp) → IsBuilt i → IsLegal i → made ≡ items i at ends → All IsLaid made
-items-laid i at ends made built legal e = subst (λ (xs : List FlowOp). All IsLaid xs) (sym e) (all-laid _ (each-laid i at ends built legal))
-
-pub items-of-word : {E : Type 0} (word at : ℕ) (ends : Bool) (i : Instr) (result : Result (Vec FlowOp Global) E) → IsWordOf word i → IfOk result (λ v. v.items ≡ items i at ends) → IfOk result (λ v. (j : Instr) × IsWordOf word j × (v.items ≡ items j at ends))
-items-of-word word at ends i (Ok v) spelled made = (i, spelled, made)
-items-of-word word at ends i (Err e) spelled made = tt
+pub made-laid : {E : Type 0} (word : Option Instr) (at : ℕ) (ends : Bool) (result : Result (Vec FlowOp Global) E) → IsLegalDecoded word → IfOk result (λ v. v.items ≡ items word at ends) → IfOk result (λ v. All IsLaid v.items)
+made-laid word at ends (Ok v) built made = items-laid word at ends v.items built made
+made-laid word at ends (Err e) built made = tt

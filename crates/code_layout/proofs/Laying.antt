@@ -10,9 +10,10 @@ use Rattle.ia_codec.specs.declared.op.Condition.{Condition}
 use Rattle.ia_codec.specs.declared.op.Op.{Op}
 use Rattle.ia_codec.specs.declared.op.Op.TheVariants.{AluTo, AluFrom, AluImm, TestReg, TestImm, Unary, Imul, MovTo, MovFrom, MovToImm, MovHalfTo, MovByteTo, MovByteFrom, Shift, ShiftByCl, Lea, Extend, Set, Cmov, Bsr, JmpTo}
 use Rattle.ia_codec.specs.Spelling.{modrm, dword, spelling, alu_number, shift_number, unary_number}
-use Rattle.base_flow.specs.declared.flow_op.FlowOp.{FlowOp}
+use Rattle.symbolic_tiles.specs.declared.flow_op.FlowOp.{FlowOp}
 use Rattle.code_layout.specs.Blocks.{address_of}
-use Rattle.code_layout.specs.Code.{place_of, entry_of, jump_on, jump, condition_of, item_length, item_bytes, items_bytes}
+use Rattle.code_layout.specs.Places.{Places, place_of, entry_of}
+use Rattle.code_layout.specs.Code.{jump_on, jump, condition_of, item_length, item_bytes, items_bytes}
 use Rattle.reg_map.specs.Relocated.{operand_at, op_at}
 
 moved : (n area : ℕ) (m : Operand) → length (modrm n (operand_at area m)) ≡ length (modrm n m)
@@ -63,23 +64,23 @@ jump-length condition rel = jump_on-length (condition_of condition) rel
 none-left : (xs : List FlowOp) (i : ℕ) → length xs ≤ i → drop i xs ≡ []
 none-left xs i le = grind (arith, common_steps)
 
-bytes-drop : (area : ℕ) (targets : ℕ → ℕ) (xs : List FlowOp) (i here : ℕ) (d : FlowOp) → i < length xs → items_bytes area targets here (drop i xs) ≡ item_bytes area targets here (get_or xs i d) (drop (i + 1) xs) ++ items_bytes area targets (here + item_length (get_or xs i d)) (drop (i + 1) xs)
+bytes-drop : (p : Places) (xs : List FlowOp) (i here : ℕ) (d : FlowOp) → i < length xs → items_bytes p here (drop i xs) ≡ item_bytes p here (get_or xs i d) (drop (i + 1) xs) ++ items_bytes p (here + item_length p.switch (get_or xs i d)) (drop (i + 1) xs)
 unfolding items_bytes
-bytes-drop area targets xs i here d lt =
+bytes-drop p xs i here d lt =
     let next : suc i ≡ i + 1 = omega arith in
-    ap (λ (v : List FlowOp). items_bytes area targets here v) (drop-cons xs i d lt)
-    ∙ ap (λ (k : ℕ). item_bytes area targets here (get_or xs i d) (drop k xs) ++ items_bytes area targets (here + item_length (get_or xs i d)) (drop k xs)) next
+    ap (λ (v : List FlowOp). items_bytes p here v) (drop-cons xs i d lt)
+    ∙ ap (λ (k : ℕ). item_bytes p here (get_or xs i d) (drop k xs) ++ items_bytes p (here + item_length p.switch (get_or xs i d)) (drop k xs)) next
 
 -- what stands already, and the items that are left, are the whole
-pub bytes-more : (area code : ℕ) (targets : ℕ → ℕ) (xs : List FlowOp) (i n m : ℕ) (d : FlowOp) (rest : List FlowOp) (old new whole : List ℕ) → i < length xs → rest ≡ drop (i + 1) xs → new ≡ old ++ item_bytes area targets (code + n) (get_or xs i d) rest → m ≡ n + item_length (get_or xs i d) → old ++ items_bytes area targets (code + n) (drop i xs) ≡ whole → new ++ items_bytes area targets (code + m) (drop (i + 1) xs) ≡ whole
-bytes-more area code targets xs i n m d rest old new whole lt left made longer so =
-    let there : code + (n + item_length (get_or xs i d)) ≡ code + n + item_length (get_or xs i d) = omega arith in
-    rw (made, left, longer, there) (append_assoc old _ _ ∙ ap (λ (v : List ℕ). old ++ v) (sym (bytes-drop area targets xs i (code + n) d lt)) ∙ so)
+pub bytes-more : (p : Places) (code : ℕ) (xs : List FlowOp) (i n m : ℕ) (d : FlowOp) (rest : List FlowOp) (old new whole : List ℕ) → i < length xs → rest ≡ drop (i + 1) xs → new ≡ old ++ item_bytes p (code + n) (get_or xs i d) rest → m ≡ n + item_length p.switch (get_or xs i d) → old ++ items_bytes p (code + n) (drop i xs) ≡ whole → new ++ items_bytes p (code + m) (drop (i + 1) xs) ≡ whole
+bytes-more p code xs i n m d rest old new whole lt left made longer so =
+    let there : code + (n + item_length p.switch (get_or xs i d)) ≡ code + n + item_length p.switch (get_or xs i d) = omega arith in
+    rw (made, left, longer, there) (append_assoc old _ _ ∙ ap (λ (v : List ℕ). old ++ v) (sym (bytes-drop p xs i (code + n) d lt)) ∙ so)
 
-pub bytes-all : (area : ℕ) (targets : ℕ → ℕ) (xs : List FlowOp) (i here : ℕ) (old whole : List ℕ) → length xs ≤ i → old ++ items_bytes area targets here (drop i xs) ≡ whole → old ≡ whole
+pub bytes-all : (p : Places) (xs : List FlowOp) (i here : ℕ) (old whole : List ℕ) → length xs ≤ i → old ++ items_bytes p here (drop i xs) ≡ whole → old ≡ whole
 unfolding items_bytes
-bytes-all area targets xs i here old whole le so =
-    sym (append-nil old) ∙ ap (λ (v : List FlowOp). old ++ items_bytes area targets here v) (sym (none-left xs i le)) ∙ so
+bytes-all p xs i here old whole le so =
+    sym (append-nil old) ∙ ap (λ (v : List FlowOp). old ++ items_bytes p here v) (sym (none-left xs i le)) ∙ so
 
 nowhere-by : (b : Bool) (entries : List ℕ) (hold k : ℕ) → (b ≡ true → length entries ≤ k) → hold ≡ (if b then slice_index_or entries k hold else hold)
 nowhere-by true entries hold k past = sym (get_or_past entries k hold (past refl))

@@ -1,3 +1,5 @@
+pub mod StraightTiles
+pub mod BuiltWords
 pub mod Bases
 pub mod LaidItems
 pub mod Cuts
@@ -8,3 +10,4 @@ pub mod Laid
 pub mod Beginning
 pub mod Conditions
 pub mod Short
+pub mod Spelled

@@ -1,20 +1,19 @@
 -- The instructions that translation is built for.
-use Rattle.std.specs.Prelude.{ℕ, false}
+use Rattle.std.specs.Prelude.{ℕ, ◌⊎◌}
 use Rattle.ppc_isa.specs.Legal.{IsWordOf}
 use Rattle.ppc_isa.specs.declared.instr.Instr.{Instr}
-use Rattle.ppc_isa.specs.declared.instr.Instr.TheVariants.{Immediate, Arithmetic, Branch, SystemCall}
-use Rattle.ppc_isa.specs.declared.instr.ImmediateOp.TheVariants.{Addi}
-use Rattle.ppc_isa.specs.declared.instr.ArithmeticOp.TheVariants.{Add}
+use Rattle.base_alu.specs.Tile.{IsBuilt as IsBuiltAlu}
+use Rattle.base_mem.specs.Tile.{IsBuilt as IsBuiltAccess}
+use Rattle.base_flow.specs.Tile.{IsBuilt as IsBuiltFlow}
 
--- addi, add that doesn't record, b that doesn't link, and sc
+-- those that have a tile of ops
+abbrev pub IsBuiltStraight : Instr → Type 0
+IsBuiltStraight i = IsBuiltAlu i ⊎ IsBuiltAccess i
+
+-- those, and the flow words whose tile can be laid out
 abbrev pub IsBuilt : Instr → Type 0
-IsBuilt (Immediate Addi d a imm) = Unit {0}
-IsBuilt (Arithmetic Add d a b false) = Unit {0}
-IsBuilt (Branch target absolute false) = Unit {0}
-IsBuilt SystemCall = Unit {0}
-IsBuilt _ = ⊥
+IsBuilt i = IsBuiltStraight i ⊎ IsBuiltFlow i
 
-pub record IsBuiltWord (word : ℕ) : Type 0 where
-  pub instr : Instr
-  pub spelled : IsWordOf word instr
-  pub built : IsBuilt instr
+-- the word's instruction is one of them, if it is a legal word
+abbrev pub IsBuiltWord : ℕ → Type 0
+IsBuiltWord word = (i : Instr) → IsWordOf word i → IsBuilt i

@@ -1,46 +1,69 @@
--- The ops of a code word, where its home page and its code aren't placed yet.
-use Rattle.std.specs.Prelude.{ℕ, ◌+◌, ◌-◌, ◌/◌, ◌%◌, ◌^◌, ◌==◌, Bool, true, false, List, [], ◌∷◌, ◌++◌, map, find, length, slice_index_or, Option, None, Some, if◌then◌else◌}
-use Rattle.ppc_isa.specs.declared.map.Map.{Map}
+-- The items of a code word, and their bytes. This project's own.
+use Rattle.std.specs.Prelude.{ℕ, ◌+◌, ◌-◌, ◌%◌, ◌^◌, ◌==◌, Bool, false, List, [], ◌∷◌, ◌++◌, map, find, length, Option, None, Some, if◌then◌else◌}
 use Rattle.ppc_isa.specs.declared.instr.Instr.{Instr}
-use Rattle.ppc_isa.specs.declared.instr.Instr.TheVariants.{Branch, SystemCall}
 use Rattle.ia_codec.specs.Spelling.{condition_number, spelling}
 use Rattle.ia_codec.specs.declared.op.Op.{Op}
-use Rattle.ia_codec.specs.declared.op.Op.TheVariants.{Jcc, Jmp}
+use Rattle.ia_codec.specs.declared.op.Op.TheVariants.{Jcc, Jmp, JmpTo}
+use Rattle.ia_codec.specs.declared.op.Operand.TheVariants.{Base}
+use Rattle.reg_map.specs.Registers.{eax}
 use Rattle.ia_codec.specs.declared.op.Condition.{Condition}
 use Rattle.ia_codec.specs.declared.op.Condition.TheVariants.{Below, NotBelow, Equal, NotEqual, NotAbove, Above, Sign, NotSign, Less, NotLess, NotGreater, Greater}
 pub use Rattle.reg_map.specs.Relocated.{operand_at, op_at, IsPlaceable}
-use Rattle.code_layout.specs.Blocks.{address_of}
+use Rattle.code_layout.specs.Leap.{leap_ops}
+use Rattle.code_layout.specs.Places.{no_registers, Moves, Places}
+use Rattle.ppc_isa.specs.declared.map.Map.{Map}
 use Rattle.base_alu.specs.Tile.{tile as alu_tile}
-use Rattle.base_flow.specs.Tile.{tile as flow_tile}
-use Rattle.base_flow.specs.Target.{next_address}
-use Rattle.base_flow.specs.declared.flow_op.FlowOp.{FlowOp}
-use Rattle.base_flow.specs.declared.flow_op.FlowOp.TheVariants.{Plain, Jump, Mark, Edge, Leap}
+use Rattle.base_mem.specs.Tile.{has_access, tile as access_tile}
+use Rattle.base_flow.specs.Tile.{tile as flow_tile, illegal_items}
+use Rattle.symbolic_tiles.specs.TileItems.{flows_of}
+use Rattle.machines.specs.Guest.{behind as next_address}
+use Rattle.row_laws.specs.FlowWords.{is_flow}
+use Rattle.symbolic_tiles.specs.declared.flow_op.FlowOp.{FlowOp}
+use Rattle.symbolic_tiles.specs.declared.flow_op.FlowOp.TheVariants.{Plain, Jump, Mark, Edge, Leap}
 
--- the register map of every block so far
-abbrev pub no_registers : Map
-no_registers = record { ebx = None; esi = None; edi = None }
+-- the tile of a word that is no flow word
+abbrev pub word_ops : Instr → Map → List Op
+word_ops i map = if has_access i then access_tile i map else alu_tile i map
 
--- whether a block ends behind the instruction
-abbrev pub is_flow : Instr → Bool
-is_flow (Branch target absolute link) = true
-is_flow SystemCall = true
-is_flow _ = false
-
--- the tile of a word that is no flow word, with the edge to the next address where its block ends
+-- this tile, with the edge to the next address where its block ends
 abbrev pub straight : Instr → ℕ → Bool → List FlowOp
-straight i at ends = map (λ op. Plain op) (alu_tile i no_registers) ++ (if ends then Edge (next_address at) ∷ [] else [])
+straight i at ends = map (λ op. Plain op) (word_ops i no_registers) ++ (if ends then Edge (next_address at) ∷ [] else [])
 
--- the items of an instruction at an address, at the end of its block or before it
-abbrev pub items : Instr → ℕ → Bool → List FlowOp
-items i at ends = if is_flow i then flow_tile i at no_registers else straight i at ends
+-- the items of a word at an address, at the end of its block or before it
+abbrev pub items : Option Instr → ℕ → Bool → List FlowOp
+items (Some i) at ends = if is_flow i then flow_tile i at no_registers else straight i at ends
+items None at ends = flows_of illegal_items no_registers
 
--- an item that is laid out so far
+-- an item whose op is in the profile over each home page
 abbrev pub IsLaid : FlowOp → Type 0
 IsLaid (Plain op) = IsPlaceable op
-IsLaid (Jump condition mark) = Unit {0}
-IsLaid (Mark mark) = Unit {0}
-IsLaid (Edge address) = Unit {0}
-IsLaid Leap = ⊥
+IsLaid _ = Unit {0}
+
+-- the bytes of ops one behind another
+abbrev pub spelled : List Op → List ℕ
+spelled [] = []
+spelled (op ∷ ops) = spelling op ++ spelled ops
+
+-- the ops of moves
+abbrev pub moves_ops : Moves → List Op
+moves_ops [] = []
+moves_ops ((to, ops) ∷ moves) = ops ++ moves_ops moves
+
+-- ops over the home page at `area`, and their bytes
+abbrev pub ops_at : ℕ → List Op → List Op
+ops_at area ops = map (op_at area) ops
+
+abbrev pub placed : ℕ → List Op → List ℕ
+placed area ops = spelled (ops_at area ops)
+
+-- an edge at a host address: the ops of its moves, and the jump to its target
+abbrev pub edge_bytes : ℕ → List Op → ℕ → ℕ → List ℕ
+edge_bytes area ops target here = placed area ops ++ spelling (Jmp ((target + (2 ^ 32 - (here + length (spelled ops) + 5))) % 2 ^ 32))
+
+-- the indirect sequence at a host address: its four ops, 20 bytes long, a jump of 6 to `hold` where the address is no code
+-- word's, and the jump through the table
+abbrev pub leap_bytes : Places → ℕ → List ℕ
+leap_bytes p here = spelled (leap_ops p.first p.count) ++ (spelling (Jcc NotBelow ((p.hold + (2 ^ 32 - (here + 26))) % 2 ^ 32)) ++ spelling (JmpTo (Base eax p.table)))
 
 -- the conditions of jumps, by their numbers
 abbrev pub conditions : List Condition
@@ -58,47 +81,37 @@ jump_on None rel = Jmp rel
 abbrev pub jump : ℕ → ℕ → Op
 jump condition rel = jump_on (condition_of condition) rel
 
--- how many bytes an item has
-abbrev pub item_length : FlowOp → ℕ
-item_length (Plain op) = length (spelling op)
-item_length (Jump condition mark) = length (spelling (jump condition 0))
-item_length (Mark mark) = 0
-item_length (Edge address) = length (spelling (Jmp 0))
-item_length Leap = 0
+-- how many bytes an item has, where edges have these moves
+abbrev pub item_length : (ℕ → Moves) → FlowOp → ℕ
+item_length switch (Plain op) = length (spelling op)
+item_length switch (Jump condition mark) = length (spelling (jump condition 0))
+item_length switch (Mark mark) = 0
+item_length switch (Edge address) = length (spelled (moves_ops (switch address))) + 5
+item_length switch Leap = 32
 
-unfoldable pub items_length : List FlowOp → ℕ
-items_length [] = 0
-items_length (item ∷ rest) = item_length item + items_length rest
+unfoldable pub items_length : (ℕ → Moves) → List FlowOp → ℕ
+items_length switch [] = 0
+items_length switch (item ∷ rest) = item_length switch item + items_length switch rest
 
 abbrev pub is_mark : FlowOp → ℕ → Bool
 is_mark (Mark here) mark = here == mark
 is_mark _ mark = false
 
 -- how many bytes stand before the first such mark; before the end where there is none
-unfoldable pub before_mark : List FlowOp → ℕ → ℕ
-before_mark [] mark = 0
-before_mark (item ∷ rest) mark = if is_mark item mark then 0 else item_length item + before_mark rest mark
+unfoldable pub before_mark : (ℕ → Moves) → List FlowOp → ℕ → ℕ
+before_mark switch [] mark = 0
+before_mark switch (item ∷ rest) mark = if is_mark item mark then 0 else item_length switch item + before_mark switch rest mark
 
--- the place of the code word that would stand at an address
-abbrev pub place_of : ℕ → ℕ → ℕ
-place_of first address = (address - first) / 4
-
--- where an edge to a guest address leads: to the entry of the code word there, and where none stands there to `hold`
-abbrev pub entry_of : ℕ → List ℕ → ℕ → ℕ → ℕ
-entry_of first entries hold address =
-    if address == address_of first (place_of first address) then slice_index_or entries (place_of first address) hold else hold
-
--- the bytes of an item at the host address `here`, before the rest of its tile, where an edge to an address leads to
--- its target; `rel` of a jump is counted from the
+-- the bytes of an item at the host address `here`, before the rest of its tile; `rel` of a jump is counted from the
 -- address behind it (Intel SDM, volume 2, jmp)
-abbrev pub item_bytes : ℕ → (ℕ → ℕ) → ℕ → FlowOp → List FlowOp → List ℕ
-item_bytes area targets here (Plain op) rest = spelling (op_at area op)
-item_bytes area targets here (Jump condition mark) rest = spelling (jump condition (before_mark rest mark))
-item_bytes area targets here (Mark mark) rest = []
-item_bytes area targets here (Edge address) rest = spelling (Jmp ((targets address + (2 ^ 32 - (here + 5))) % 2 ^ 32))
-item_bytes area targets here Leap rest = []
+abbrev pub item_bytes : Places → ℕ → FlowOp → List FlowOp → List ℕ
+item_bytes p here (Plain op) rest = spelling (op_at p.area op)
+item_bytes p here (Jump condition mark) rest = spelling (jump condition (before_mark p.switch rest mark))
+item_bytes p here (Mark mark) rest = []
+item_bytes p here (Edge address) rest = edge_bytes p.area (moves_ops (p.switch address)) (p.targets address) here
+item_bytes p here Leap rest = leap_bytes p here
 
 -- the bytes of items that stand one behind another from `here` on
-unfoldable pub items_bytes : ℕ → (ℕ → ℕ) → ℕ → List FlowOp → List ℕ
-items_bytes area targets here [] = []
-items_bytes area targets here (item ∷ rest) = item_bytes area targets here item rest ++ items_bytes area targets (here + item_length item) rest
+unfoldable pub items_bytes : Places → ℕ → List FlowOp → List ℕ
+items_bytes p here [] = []
+items_bytes p here (item ∷ rest) = item_bytes p here item rest ++ items_bytes p (here + item_length p.switch item) rest

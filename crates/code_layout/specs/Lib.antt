@@ -1,5 +1,9 @@
 pub mod Built
+pub mod Decoded
 pub mod Blocks
+pub mod Places
+pub mod PlacesOf
+pub mod Leap
 pub mod Code
 pub mod Leaders
 pub mod Layout

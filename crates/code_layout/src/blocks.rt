@@ -1,15 +1,13 @@
 //! The blocks of a program, and the order in which their code stands.
 
 ghost use Rattle.std.specs.Prelude.{◌≡◌, ◌≢◌, ◌≤◌, ◌<◌, ◌+◌, ◌*◌, ◌^◌, ◌↔◌, ℕ, IsTrue, IfOk, OnOk, MatchOption, Some, All, ◌++◌, true, length, vec_len, get_or, slice_index};
-ghost use Rattle.ppc_isa.specs.Legal.{IsLegal};
-ghost use Rattle.code_layout.specs.Built.{IsBuiltWord};
+ghost use Rattle.code_layout.specs.Decoded.{IsLegalDecoded, decoded_at};
 ghost use Rattle.code_layout.specs.Blocks.{address_of as address, IsAmong, IsCut, IsSet, code_order, singles, beginnings};
-ghost use Rattle.code_layout.specs.Leaders.{named_address, IsLeader};
-ghost use Rattle.code_layout.specs.Code.{is_flow as is_flow_of};
+ghost use Rattle.code_layout.specs.Leaders.{ends_block as ends_block_of, named_by as named_by_of, named_address as named_address_of, IsLeader};
+ghost use Rattle.ppc_isa.specs.Legal.{IsLegal};
 
-use crate::built::instruction;
 use crate::source::Source;
-use base_flow::target;
+use base_flow::{is_flow, short_target, target};
 use ppc_isa::Instr;
 use std::alloc::Global;
 use word_kit::NoMemory;
@@ -52,17 +50,10 @@ pub fn place_at(first: u32, at: u32, count: usize) -> Option<usize>
     }
 }
 
-/// Whether a block ends behind the instruction.
-pub fn is_flow(instr: &Instr) -> bool
-    ensures { result ≡ is_flow_of instr.now }
-{
-    matches!(*instr, Instr::Branch { .. } | Instr::SystemCall)
-}
-
 /// Which code words are leaders: the first one, the one at which the run begins, those that a branch
 /// names, the one behind each flow word, and the one behind a block of 64 words.
 pub fn leaders(alloc: Global, source: &Source<'_>) -> Result<Vec<bool>, NoMemory>
-    requires built { (k : ℕ) → k < length source.now.words.now → IsBuiltWord (slice_index source.now.words.now k) }
+    requires legal { (k : ℕ) → k < length source.now.words.now → IsLegalDecoded (decoded_at source.now.words.now k) }
     ensures count { IfOk result (λ v. vec_len v ≡ length source.now.words.now) }
     ensures each { IfOk result (λ v. (k : ℕ) → k < length source.now.words.now → IsSet v.items k ↔ IsLeader source.now.first source.now.entry source.now.words.now k) }
 {
@@ -70,11 +61,10 @@ pub fn leaders(alloc: Global, source: &Source<'_>) -> Result<Vec<bool>, NoMemory
     leaders[0] = true;
     leaders[source.entry] = true;
     for (place, word) in source.words.iter().enumerate() {
-        let instr = instruction(*word);
-        if let Some(named) = named_place(&instr, source, place) {
+        if let Some(named) = named_place(word, source, place) {
             leaders[named] = true;
         }
-        if is_flow(&instr) && place + 1 < source.words.len() {
+        if ends_block(word) && place + 1 < source.words.len() {
             leaders[place + 1] = true;
         }
     }
@@ -82,25 +72,53 @@ pub fn leaders(alloc: Global, source: &Source<'_>) -> Result<Vec<bool>, NoMemory
     Ok(leaders)
 }
 
-// The place of the code word that the instruction at a place names, where it is a branch to one.
-fn named_place(instr: &Instr, source: &Source<'_>, place: usize) -> Option<usize>
-    requires legal { IsLegal instr.now }
+// Whether a block ends behind the word.
+fn ends_block(word: &Option<Instr>) -> bool
+    ensures { result ≡ ends_block_of word.now }
+{
+    match word {
+        Some(instr) => is_flow(instr),
+        None => true,
+    }
+}
+
+// The place of the code word that the word at a place names, where it is a branch to one.
+fn named_place(word: &Option<Instr>, source: &Source<'_>, place: usize) -> Option<usize>
+    requires legal { IsLegalDecoded word.now }
     requires place { place < length source.now.words.now }
-    ensures { MatchOption result ((k : ℕ) → k < length source.now.words.now → named_address source.now.first instr.now place ≢ Some (address source.now.first k)) (λ k. (k < length source.now.words.now) × (named_address source.now.first instr.now place ≡ Some (address source.now.first k))) }
+    ensures { MatchOption result ((k : ℕ) → k < length source.now.words.now → named_address_of source.now.first word.now place ≢ Some (address source.now.first k)) (λ k. (k < length source.now.words.now) × (named_address_of source.now.first word.now place ≡ Some (address source.now.first k))) }
+{
+    let named = named_by(word, address_of(source.first, place))?;
+    place_at(source.first, named, source.words.len())
+}
+
+// The address that a word at an address names, where it is a branch.
+fn named_by(word: &Option<Instr>, at: u32) -> Option<u32>
+    requires { IsLegalDecoded word.now }
+    ensures { result ≡ named_by_of word.now at }
+{
+    match word {
+        Some(instr) => named_address(instr, at),
+        None => None,
+    }
+}
+
+// The address that an instruction at an address names, where it is a branch.
+fn named_address(instr: &Instr, at: u32) -> Option<u32>
+    requires { IsLegal instr.now }
+    ensures { result ≡ named_by_of (Some instr.now) at }
 {
     match *instr {
         Instr::Branch {
             target: field,
             absolute,
             ..
-        } => {
-            let at = address_of(source.first, place);
-            place_at(
-                source.first,
-                target(field, absolute, at),
-                source.words.len(),
-            )
-        }
+        } => Some(target(field, absolute, at)),
+        Instr::BranchConditional {
+            target: field,
+            absolute,
+            ..
+        } => Some(short_target(field, absolute, at)),
         _ => None,
     }
 }

@@ -1,37 +1,24 @@
 //! The instructions that translation is built for.
 
 ghost use Rattle.std.specs.Prelude.{◌≡◌, ◌<◌, ◌↔◌, ℕ, IsTrue, IfSome, IfNone, length, slice_index};
-ghost use Rattle.ppc_isa.specs.Legal.{IsWordOf};
 ghost use Rattle.code_layout.specs.Built.{IsBuilt, IsBuiltWord};
 
-use ppc_isa::{ArithmeticOp, ImmediateOp, Instr, decode};
+use ppc_isa::{Instr, decode};
 
-// Whether translation is built for the instruction: addi, add that doesn't record, b that doesn't
-// link, and sc.
+// Whether translation is built for the instruction.
 fn is_built(instr: &Instr) -> bool
     ensures { IsTrue result ↔ IsBuilt instr.now }
 {
-    matches!(
-        *instr,
-        Instr::Immediate {
-            op: ImmediateOp::Addi,
-            ..
-        } | Instr::Arithmetic {
-            op: ArithmeticOp::Add,
-            records: false,
-            ..
-        } | Instr::Branch { link: false, .. }
-            | Instr::SystemCall
-    )
+    base_alu::is_built(instr) || base_mem::is_built(instr) || base_flow::is_built(instr)
 }
 
-// Whether the word is an instruction that translation is built for.
+// Whether translation is built for the word.
 fn is_built_word(word: u32) -> bool
     ensures { IsTrue result ↔ IsBuiltWord word }
 {
     match decode(word) {
         Some(instr) => is_built(&instr),
-        None => false,
+        None => true,
     }
 }
 
@@ -48,16 +35,4 @@ pub fn first_unbuilt(words: &[u32]) -> Option<usize>
         }
     }
     None
-}
-
-/// The instruction of a word that translation is built for.
-pub(crate) fn instruction(word: u32) -> Instr
-    requires { IsBuiltWord word }
-    ensures spelled { IsWordOf word result }
-    ensures built { IsBuilt result }
-{
-    match decode(word) {
-        Some(instr) => instr,
-        None => unreachable!(),
-    }
 }

@@ -1,65 +1,54 @@
 //! The code of one word: its items, and these as bytes at their address.
 
-ghost use Rattle.std.specs.Prelude.{◌≡◌, ◌≤◌, ◌<◌, ◌+◌, ◌*◌, ◌^◌, [], ◌∷◌, ◌++◌, IfOk, OnOk, All, map, length, vec_len};
+ghost use Rattle.std.specs.Prelude.{◌≡◌, ◌≤◌, ◌<◌, ◌+◌, ◌*◌, ◌^◌, [], ◌∷◌, ◌++◌, Some, IfOk, OnOk, All, map, length, vec_len};
 ghost use Rattle.ia_codec.specs.Spelling.{spelling, IsInProfile, IsOperand};
-ghost use Rattle.ppc_isa.specs.Legal.{IsLegal, IsWordOf};
-ghost use Rattle.code_layout.specs.Built.{IsBuilt, IsBuiltWord};
+ghost use Rattle.ppc_isa.specs.Legal.{IsLegal};
+ghost use Rattle.code_layout.specs.Built.{IsBuiltStraight};
+ghost use Rattle.code_layout.specs.Decoded.{IsLegalDecoded};
+ghost use Rattle.reg_map.specs.Place.{IsMap};
 ghost use Rattle.reg_map.specs.Relocated.{operand_at as operand_over, op_at};
-ghost use Rattle.code_layout.specs.Code.{IsLaid, items, jump as jump_of, item_length as length_of, items_length, before_mark as before_mark_of, entry_of, item_bytes, items_bytes};
+ghost use Rattle.code_layout.specs.Code.{IsLaid, word_ops, items, jump as jump_of, item_length as length_of, items_length, before_mark as before_mark_of, spelled, leap_bytes, item_bytes, items_bytes};
+ghost use Rattle.code_layout.specs.Leap.{leap_ops as leap_ops_of};
+ghost use Rattle.code_layout.specs.Places.{no_moves};
+ghost use Rattle.code_layout.specs.PlacesOf.{places_of};
 
-use crate::blocks::{is_flow, place_at};
-use crate::built::instruction;
-use base_flow::{FlowOp, next_address};
-use ia_codec::{Condition, Op, Operand, encode};
+use crate::places::Layout;
+use base_flow::{FlowOp, is_flow, next_address};
+use ia_codec::{AluOp, Condition, Op, Operand, encode};
 use ppc_isa::{Instr, Map};
+use reg_map::{EAX, ECX};
 use std::alloc::Global;
 use word_kit::NoMemory;
 
-/// Where the code and what it reads stand on the host.
-#[derive(Clone, Copy)]
-pub struct Layout<'a> {
-    /// The address of the home page.
-    pub area: u32,
-    /// The address of the code's first op, which is `hold`.
-    pub code: u32,
-    /// The address of the guest's first code word.
-    pub first: u32,
-    /// The address of each code word's block.
-    pub entries: &'a [u32],
-    ghost few: { length entries.now ≤ 131072 },
-    ghost room: { first + 4 * length entries.now ≤ 2 ^ 32 },
-    ghost page: { area + 4096 ≤ 2 ^ 32 },
-}
+// The indirect sequence has 32 bytes, and its jump to `hold` ends 26 behind its start.
+const LEAP_LENGTH: u32 = 32;
 
-impl Layout<'_> {
-    // Where an edge to a guest address leads: to the block there, and outside the code to `hold`.
-    fn target(&self, address: u32) -> u32
-        ensures { result ≡ entry_of self.now.first self.now.entries.now self.now.code address }
-    {
-        match place_at(self.first, address, self.entries.len()) {
-            Some(place) => self.entries[place],
-            None => self.code,
-        }
-    }
-}
+const TO_HOLD_END: u32 = 26;
 
-/// The items of a code word at an address: its tile, and where its block ends without a flow word the
-/// edge to the next address.
-pub fn word_items(alloc: Global, word: u32, at: u32, ends: bool) -> Result<Vec<FlowOp>, NoMemory>
-    requires { IsBuiltWord word }
-    ensures items { IfOk result (λ v. (i : Instr) × IsWordOf word i × (v.items ≡ items i at ends)) }
+/// The items of a code word at an address: its tile, which is ud2 for an illegal word, and where its block
+/// ends without a flow word the edge to the next address.
+pub fn word_items(
+    alloc: Global,
+    word: &Option<Instr>,
+    at: u32,
+    ends: bool,
+) -> Result<Vec<FlowOp>, NoMemory>
+    requires { IsLegalDecoded word.now }
+    ensures items { IfOk result (λ v. v.items ≡ items word.now at ends) }
     ensures laid { IfOk result (λ v. All IsLaid v.items) }
     ensures few { IfOk result (λ v. vec_len v ≤ 129) }
-    ensures short { IfOk result (λ v. items_length v.items ≤ 636) }
+    ensures short { IfOk result (λ v. items_length no_moves v.items ≤ 636) }
 {
-    items_of(alloc, &instruction(word), at, ends)
+    match word {
+        Some(instr) => items_of(alloc, instr, at, ends),
+        None => plain_items(alloc, &[Op::Ud2]),
+    }
 }
 
 // The items of an instruction at an address, at the end of its block or before it.
 fn items_of(alloc: Global, instr: &Instr, at: u32, ends: bool) -> Result<Vec<FlowOp>, NoMemory>
-    requires built { IsBuilt instr.now }
-    requires legal { IsLegal instr.now }
-    ensures items { IfOk result (λ v. v.items ≡ items instr.now at ends) }
+    requires { IsLegal instr.now }
+    ensures items { IfOk result (λ v. v.items ≡ items (Some instr.now) at ends) }
     ensures few { IfOk result (λ v. vec_len v ≤ 129) }
 {
     let map = Map {
@@ -70,12 +59,27 @@ fn items_of(alloc: Global, instr: &Instr, at: u32, ends: bool) -> Result<Vec<Flo
     if is_flow(instr) {
         return base_flow::emit(alloc, instr, at, &map);
     }
-    let ops = base_alu::emit(alloc, instr, &map)?;
+    let ops = straight_ops(alloc, instr, &map)?;
     let flow = plain_items(alloc, &ops)?;
     if ends {
         with_edge(flow, next_address(at))
     } else {
         Ok(flow)
+    }
+}
+
+// The ops of a word that is no flow word.
+fn straight_ops(alloc: Global, instr: &Instr, map: &Map) -> Result<Vec<Op>, NoMemory>
+    requires map { IsMap map.now }
+    requires built { IsBuiltStraight instr.now }
+    requires legal { IsLegal instr.now }
+    ensures ops { IfOk result (λ ops. ops.items ≡ word_ops instr.now map.now) }
+    ensures few { IfOk result (λ ops. length ops.items ≤ 128) }
+{
+    if base_mem::is_built(instr) {
+        base_mem::emit(alloc, instr, map)
+    } else {
+        base_alu::emit(alloc, instr, map)
     }
 }
 
@@ -104,8 +108,8 @@ fn with_edge(mut items: Vec<FlowOp>, address: u32) -> Result<Vec<FlowOp>, NoMemo
 pub fn length(items: &[FlowOp]) -> u32
     requires laid { All IsLaid items.now }
     requires few { length items.now ≤ 129 }
-    ensures value { result ≡ items_length items.now }
-    ensures bound { result ≤ 12 * length items.now }
+    ensures value { result ≡ items_length no_moves items.now }
+    ensures bound { result ≤ 32 * length items.now }
 {
     let mut bytes = 0;
     for item in items {
@@ -114,17 +118,18 @@ pub fn length(items: &[FlowOp]) -> u32
     bytes
 }
 
+// The length of an item in bytes. Edges have no moves.
 fn item_length(item: &FlowOp) -> u32
     requires { IsLaid item.now }
-    ensures value { result ≡ length_of item.now }
-    ensures bound { result ≤ 12 }
+    ensures value { result ≡ length_of no_moves item.now }
+    ensures bound { result ≤ 32 }
 {
     match item {
         FlowOp::Plain(op) => encode(op).len as u32,
         FlowOp::Jump(condition, _) => encode(&jump(*condition, 0)).len as u32,
         FlowOp::Mark(_) => 0,
         FlowOp::Edge(_) => encode(&Op::Jmp { rel: 0 }).len as u32,
-        FlowOp::Leap => unreachable!(),
+        FlowOp::Leap => LEAP_LENGTH,
     }
 }
 
@@ -132,7 +137,7 @@ fn item_length(item: &FlowOp) -> u32
 fn before_mark(items: &[FlowOp], mark: u8) -> u32
     requires laid { All IsLaid items.now }
     requires few { length items.now ≤ 129 }
-    ensures { result ≡ before_mark_of items.now mark }
+    ensures { result ≡ before_mark_of no_moves items.now mark }
 {
     let mut bytes = 0;
     for item in items {
@@ -148,10 +153,10 @@ fn before_mark(items: &[FlowOp], mark: u8) -> u32
 pub fn put(code: &mut Vec<u8>, items: &[FlowOp], layout: &Layout<'_>) -> Result<(), NoMemory>
     requires laid { All IsLaid items.now }
     requires few { length items.now ≤ 129 }
-    requires room { layout.now.code + vec_len code.old + 12 * length items.now < 2 ^ 32 }
-    ensures bytes { OnOk result (code.new.items ≡ code.old.items ++ items_bytes layout.now.area (entry_of layout.now.first layout.now.entries.now layout.now.code) (layout.now.code + vec_len code.old) items.now) }
-    ensures length { OnOk result (vec_len code.new ≡ vec_len code.old + items_length items.now) }
-    ensures bound { OnOk result (vec_len code.new ≤ vec_len code.old + 12 * length items.now) }
+    requires room { layout.now.code + vec_len code.old + 32 * length items.now < 2 ^ 32 }
+    ensures bytes { OnOk result (code.new.items ≡ code.old.items ++ items_bytes (places_of layout.now) (layout.now.code + vec_len code.old) items.now) }
+    ensures length { OnOk result (vec_len code.new ≡ vec_len code.old + items_length no_moves items.now) }
+    ensures bound { OnOk result (vec_len code.new ≤ vec_len code.old + 32 * length items.now) }
 {
     for (place, item) in items.iter().enumerate() {
         let rest = &items[place + 1..];
@@ -170,10 +175,10 @@ fn put_item(
     requires laid { IsLaid item.now }
     requires rest { All IsLaid rest.now }
     requires few { length rest.now ≤ 129 }
-    requires room { layout.now.code + vec_len code.old + 12 < 2 ^ 32 }
-    ensures bytes { OnOk result (code.new.items ≡ code.old.items ++ item_bytes layout.now.area (entry_of layout.now.first layout.now.entries.now layout.now.code) (layout.now.code + vec_len code.old) item.now rest.now) }
-    ensures length { OnOk result (vec_len code.new ≡ vec_len code.old + length_of item.now) }
-    ensures bound { OnOk result (vec_len code.new ≤ vec_len code.old + 12) }
+    requires room { layout.now.code + vec_len code.old + 32 < 2 ^ 32 }
+    ensures bytes { OnOk result (code.new.items ≡ code.old.items ++ item_bytes (places_of layout.now) (layout.now.code + vec_len code.old) item.now rest.now) }
+    ensures length { OnOk result (vec_len code.new ≡ vec_len code.old + length_of no_moves item.now) }
+    ensures bound { OnOk result (vec_len code.new ≤ vec_len code.old + 32) }
 {
     match item {
         FlowOp::Plain(op) => put_op(code, &at_home(*op, layout.area)),
@@ -188,8 +193,72 @@ fn put_item(
                 },
             )
         }
-        FlowOp::Leap => unreachable!(),
+        FlowOp::Leap => put_leap(code, layout),
     }
+}
+
+// The ops of the indirect sequence before its jumps.
+fn leap_ops(first: u32, count: u32) -> [Op; 4]
+    requires { count ≤ 131072 }
+    ensures value { result ≡ leap_ops_of first count }
+    ensures profile { All IsInProfile result }
+{
+    [
+        Op::AluImm {
+            op: AluOp::And,
+            to: Operand::Reg(ECX),
+            imm: 0xFFFF_FFFC,
+        },
+        Op::MovTo {
+            to: Operand::Reg(EAX),
+            from: ECX,
+        },
+        Op::AluImm {
+            op: AluOp::Sub,
+            to: Operand::Reg(EAX),
+            imm: first,
+        },
+        Op::AluImm {
+            op: AluOp::Cmp,
+            to: Operand::Reg(EAX),
+            imm: 4 * count,
+        },
+    ]
+}
+
+// Puts the spellings of ops one behind another.
+fn put_ops(code: &mut Vec<u8>, ops: &[Op]) -> Result<(), NoMemory>
+    requires { All IsInProfile ops.now }
+    ensures spelled { OnOk result (code.new.items ≡ code.old.items ++ spelled ops.now) }
+    ensures length { OnOk result (vec_len code.new ≡ vec_len code.old + length (spelled ops.now)) }
+{
+    for op in ops {
+        put_op(code, op)?;
+    }
+    Ok(())
+}
+
+// Puts the indirect sequence.
+fn put_leap(code: &mut Vec<u8>, layout: &Layout<'_>) -> Result<(), NoMemory>
+    requires room { layout.now.code + vec_len code.old + 32 < 2 ^ 32 }
+    ensures bytes { OnOk result (code.new.items ≡ code.old.items ++ leap_bytes (places_of layout.now) (layout.now.code + vec_len code.old)) }
+    ensures length { OnOk result (vec_len code.new ≡ vec_len code.old + 32) }
+{
+    let jumps = layout.code + code.len() as u32 + TO_HOLD_END;
+    put_ops(code, &leap_ops(layout.first, layout.entries.len() as u32))?;
+    put_op(
+        code,
+        &Op::Jcc {
+            condition: Condition::NotBelow,
+            rel: layout.code.wrapping_sub(jumps),
+        },
+    )?;
+    put_op(
+        code,
+        &Op::JmpTo {
+            to: Operand::Base(EAX, layout.table),
+        },
+    )
 }
 
 // A jump over so many bytes: on the condition of this number, or always.

@@ -1,13 +1,15 @@
 //! The code segment: `hold`, the leaders' blocks and the singles, each at its address.
 
 ghost use Rattle.std.specs.Prelude.{◌≡◌, ◌≤◌, ◌<◌, ◌+◌, ◌*◌, ◌^◌, ℕ, IfOk, All, length, vec_len, slice_index};
-ghost use Rattle.code_layout.specs.Built.{IsBuiltWord};
+ghost use Rattle.code_layout.specs.Decoded.{IsLegalDecoded, decoded_at};
 ghost use Rattle.code_layout.specs.Blocks.{IsAmong, beginnings};
-ghost use Rattle.code_layout.specs.Code.{entry_of};
-ghost use Rattle.code_layout.specs.Layout.{IsCodeOf, BeginsAt};
+ghost use Rattle.code_layout.specs.Places.{no_moves};
+ghost use Rattle.code_layout.specs.PlacesOf.{places_of};
+ghost use Rattle.code_layout.specs.Layout.{code_bytes, BeginsAt};
 
 use crate::blocks::{Laid, address_of};
-use crate::code::{Layout, length, put, put_op, word_items};
+use crate::code::{length, put, put_op, word_items};
+use crate::places::Layout;
 use crate::source::Source;
 use ia_codec::Op;
 use std::alloc::Global;
@@ -23,12 +25,12 @@ pub fn entries(
     order: &[Laid],
     code: u32,
 ) -> Result<Vec<u32>, NoMemory>
-    requires built { (k : ℕ) → k < length source.now.words.now → IsBuiltWord (slice_index source.now.words.now k) }
+    requires legal { (k : ℕ) → k < length source.now.words.now → IsLegalDecoded (decoded_at source.now.words.now k) }
     requires among { All (IsAmong (length source.now.words.now)) order.now }
     requires once { (k : ℕ) → k < length source.now.words.now → beginnings k order.now ≡ 1 }
     requires room { code + 5 + 636 * length order.now < 2 ^ 32 }
     ensures count { IfOk result (λ v. vec_len v ≡ length source.now.words.now) }
-    ensures each { IfOk result (λ v. (k : ℕ) → k < length source.now.words.now → BeginsAt source.now.first source.now.words.now (code + 5) order.now k (slice_index v.items k)) }
+    ensures each { IfOk result (λ v. (k : ℕ) → k < length source.now.words.now → BeginsAt source.now.first source.now.words.now no_moves (code + 5) order.now k (slice_index v.items k)) }
 {
     let mut entries = vec![in alloc; 0; source.words.len()]?;
     let mut at = code + HOLD_LENGTH;
@@ -37,7 +39,7 @@ pub fn entries(
             entries[laid.place] = at;
         }
         let here = address_of(source.first, laid.place);
-        at += length(&word_items(alloc, source.words[laid.place], here, laid.ends)?);
+        at += length(&word_items(alloc, &source.words[laid.place], here, laid.ends)?);
     }
     Ok(entries)
 }
@@ -49,10 +51,11 @@ pub fn code(
     order: &[Laid],
     layout: &Layout<'_>,
 ) -> Result<Vec<u8>, NoMemory>
-    requires built { (k : ℕ) → k < length source.now.words.now → IsBuiltWord (slice_index source.now.words.now k) }
+    requires legal { (k : ℕ) → k < length source.now.words.now → IsLegalDecoded (decoded_at source.now.words.now k) }
     requires among { All (IsAmong (length source.now.words.now)) order.now }
-    requires room { layout.now.code + 12 + 1548 + 636 * length order.now < 2 ^ 32 }
-    ensures bytes { IfOk result (λ v. IsCodeOf source.now.first source.now.words.now layout.now.area (entry_of layout.now.first layout.now.entries.now layout.now.code) layout.now.code order.now v.items) }
+    requires first { layout.now.first ≡ source.now.first }
+    requires room { layout.now.code + 12 + 4128 + 636 * length order.now < 2 ^ 32 }
+    ensures bytes { IfOk result (λ v. v.items ≡ code_bytes source.now.words.now (places_of layout.now) order.now) }
     ensures bound { IfOk result (λ v. vec_len v ≤ 12 + 636 * length order.now) }
 {
     let mut code = Vec::new(alloc);
@@ -64,7 +67,7 @@ pub fn code(
     )?;
     for laid in order {
         let here = address_of(source.first, laid.place);
-        let items = word_items(alloc, source.words[laid.place], here, laid.ends)?;
+        let items = word_items(alloc, &source.words[laid.place], here, laid.ends)?;
         put(&mut code, &items, layout)?;
     }
     Ok(code)

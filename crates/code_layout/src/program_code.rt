@@ -1,24 +1,26 @@
 //! The code of a program over its host area.
 
 ghost use Rattle.std.specs.Prelude.{◌≡◌, ◌≤◌, ◌<◌, ◌+◌, ℕ, IfOk, length, slice_index};
-ghost use Rattle.code_layout.specs.Built.{IsBuiltWord};
+ghost use Rattle.code_layout.specs.Decoded.{IsLegalDecoded, decoded_at};
 ghost use Rattle.code_layout.specs.Layout.{IsCodeFor};
 
 use crate::blocks::{leaders, order};
-use crate::code::Layout;
 use crate::layout::{code, entries};
+use crate::places::Layout;
 use crate::source::Source;
 use branch_table::{Code, CodeBytes, Entries};
 use std::alloc::Global;
 use word_kit::NoMemory;
 
+// Where the table stands, behind the home page of 4 KiB.
+const TABLE_OFFSET: u32 = 0x1000;
 // Where the code stands behind the home page and the table, which has room for 512 KiB.
 const CODE_OFFSET: u32 = 0x8_1000;
 
 /// The code of a program over the host area that begins at `area`: `hold`, and behind it the block of
 /// each code word, with the table of where they stand.
 pub fn lay(alloc: Global, source: &Source<'_>, area: u32) -> Result<Code, NoMemory>
-    requires built { (k : ℕ) → k < length source.now.words.now → IsBuiltWord (slice_index source.now.words.now k) }
+    requires legal { (k : ℕ) → k < length source.now.words.now → IsLegalDecoded (decoded_at source.now.words.now k) }
     requires area { area + 0x0A000000 ≤ 0xBFFF0000 }
     ensures code { IfOk result (λ c. IsCodeFor source.now.first source.now.entry source.now.words.now area c.entries c.bytes) }
     ensures count { IfOk result (λ c. length c.entries ≡ length source.now.words.now) }
@@ -32,6 +34,7 @@ pub fn lay(alloc: Global, source: &Source<'_>, area: u32) -> Result<Code, NoMemo
     let layout = Layout {
         area,
         code: start,
+        table: area + TABLE_OFFSET,
         first: source.first,
         entries: &entries,
     };

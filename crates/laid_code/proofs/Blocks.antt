@@ -1,211 +1,215 @@
--- The blocks of the code, word by word.
-use Rattle.std.proofs.Common.{◌≡◌, ℕ, zero, suc, ◌+◌, ◌^◌, ◌<◌, ◌≤◌, Bool, true, false, cond, List, [], ◌∷◌, ◌++◌, length, map, get_or, slice_index, All, Contains, Option, Some, None, ◌↔◌, refl, sym, ap, ◌∙◌, subst, arith}
+-- The blocks of the code, word by word: one base tile a word.
+use Rattle.std.proofs.Common.{◌≡◌, ℕ, zero, suc, ◌+◌, ◌^◌, ◌<◌, ◌≤◌, Bool, true, false, cond, List, [], ◌∷◌, ◌++◌, length, map, get_or, slice_index, All, Option, Some, None, ◌↔◌, refl, sym, ap, ◌∙◌, subst, append_assoc, arith}
 use Rattle.std.specs.List.{range_with_len}
 use Rattle.std.proofs.lemmas.Bool.{false≢true}
-use Rattle.std.proofs.lemmas.List.{length-map}
+use Rattle.std.proofs.lemmas.List.{append-nil}
 use Rattle.std.proofs.lemmas.List.Elements.{All-head, All-tail}
 use Rattle.space.specs.declared.call.End.TheVariants.{Outside}
 use Rattle.space.specs.declared.program.Program.{Program}
-use Rattle.ppc_isa.specs.Legal.{IsWordOf}
 use Rattle.ppc_isa.specs.declared.instr.Instr.{Instr}
-use Rattle.ppc_isa.proofs.ReadWords.{one_of}
+use Rattle.ia_codec.specs.Spelling.{spelling}
 use Rattle.ia_codec.specs.declared.op.Op.{Op}
-use Rattle.base_alu.specs.Tile.{tile as alu_tile}
-use Rattle.base_flow.specs.Tile.{tile as flow_tile}
-use Rattle.base_flow.specs.Target.{next_address}
-use Rattle.base_flow.specs.declared.flow_op.FlowOp.{FlowOp}
-use Rattle.base_flow.specs.declared.flow_op.FlowOp.TheVariants.{Plain, Edge}
+use Rattle.base_flow.specs.Tile.{tile as flow_tile, illegal_items}
+use Rattle.base_flow.proofs.Tiles.{illegal_tile_does_word}
+use Rattle.symbolic_tiles.specs.TileItems.{flows_of}
+use Rattle.symbolic_tiles.specs.declared.flow_op.FlowOp.{FlowOp}
+use Rattle.symbolic_tiles.specs.declared.flow_op.FlowOp.TheVariants.{Plain, Edge}
 use Rattle.runs.specs.Machine.{Ends}
 use Rattle.machines.specs.Memory.{rights_of, code_of}
 use Rattle.machines.specs.Readings.{Fetched, ReadsWords}
-use Rattle.machines.specs.Guest.{behind, effect_of, is_code_word, code_word, executes}
-use Rattle.machines.specs.Guest.{acts as guest_acts}
-use Rattle.tiles.specs.Relocated.{op_at}
-use Rattle.tiles.specs.Row.{window_of}
-use Rattle.tiles.specs.Flow.{Fits, flow}
-use Rattle.tiles.specs.Standing.{StandAt}
-use Rattle.simulation.specs.Setting.{Setting, IsWordAt, JumpsTo}
-use Rattle.simulation.specs.Plan.{PlanStep, Tile, FlowTile, word_count, room, HasFewMoves, EdgeAt, IsInside, TileAt, BlockAt}
+use Rattle.machines.specs.Guest.{behind, is_code_word, code_word, executes}
+use Rattle.symbolic_tiles.specs.Row.{window_of}
+use Rattle.symbolic_tiles.specs.Flow.{Fits, FlowDoesWord, flow}
+use Rattle.simulation.specs.Setting.{Setting, IsWordAt}
+use Rattle.simulation.specs.Plan.{PlanStep, Tile, FlowTile, word_count, room, HasFewMoves}
 use Rattle.code_layout.specs.Blocks.{address_of, in_block, IsSet}
-use Rattle.code_layout.specs.Built.{IsBuilt}
+use Rattle.code_layout.specs.Decoded.{IsDecodedAs, decoded_at, AreDecodedAs, IsLegalDecoded}
+use Rattle.code_layout.specs.Layout.{laid_items}
 use Rattle.code_layout.specs.Leaders.{IsLeader}
-use Rattle.code_layout.specs.Code.{no_registers, straight, items, IsLaid, items_bytes, item_length, items_length, entry_of}
+use Rattle.code_layout.specs.Places.{no_registers, no_moves, Places, places_in}
+use Rattle.code_layout.specs.Code.{word_ops, op_at, straight, items, IsLaid, items_bytes, item_length, items_length}
 use Rattle.code_layout.specs.declared.blocks.Laid.{Laid}
 use Rattle.code_layout.proofs.LaidItems.{items-laid}
-use Rattle.laid_code.specs.Bytes.{HasBytes, RunsCode}
-use Rattle.laid_code.specs.Items.{labels_of, edges_of}
-use Rattle.laid_code.specs.Instance.{code_start, setting_of, HasWords, AreBuilt}
-use Rattle.laid_code.proofs.Decoding.{jump_leads}
-use Rattle.laid_code.proofs.Items.{first_item, other_items, op_at_place, items_stand}
-use Rattle.laid_code.proofs.Laid.{LaidAt, items_at}
+use Rattle.laid_code.specs.Bytes.{HasBytes}
+use Rattle.laid_code.specs.Items.{ArePlaceable, AreMarked}
+use Rattle.laid_code.specs.Plans.{plain, plan_items, last_map, AreRight}
+use Rattle.laid_code.specs.Instance.{setting_of, HasWords}
+use Rattle.laid_code.proofs.Decoding.{join_bytes}
+use Rattle.laid_code.proofs.Lengths.{bytes_length}
+use Rattle.laid_code.proofs.Laid.{LaidAt}
 use Rattle.laid_code.proofs.Cut.{NoneBetween, one_more, in_list, block_is_short}
-use Rattle.laid_code.proofs.Rows.{IsStraightWord, IsFlowingWord, Kind, straight as straight_kind, flowing, kind_of}
+use Rattle.laid_code.proofs.Rows.{is_map, IsStraightWord, straight_tile, straight_leads, Kind, straight as straight_kind, flowing, kind_of}
+use Rattle.symbolic_tiles.proofs.PlaceLaws.{programs_write_held}
 
-module _ (reading : ℕ → Option Instr) (ops : List ℕ → Option Fetched) (P Q : Program) (first entry : ℕ) (words : List ℕ) (area : ℕ) (table : List ℕ) (reads : ReadsWords reading) (has : HasWords P first words) (built : AreBuilt words) (low : area + 4096 ≤ 2 ^ 32) where
+-- ops before other items
+plain_bytes : (p : Places) (here : ℕ) (ops : List Op) (rest : List FlowOp) → items_bytes p here (plain ops ++ rest) ≡ items_bytes p here (plain ops) ++ items_bytes p (here + items_length p.switch (plain ops)) rest
+unfolding items_bytes items_length
+plain_bytes p here [] rest = let e : here + 0 ≡ here = omega arith in ap (λ (n : ℕ). items_bytes p n rest) (sym e)
+plain_bytes p here (op ∷ ops) rest =
+    let next : ℕ = here + item_length p.switch (Plain op) in
+    let e : next + items_length p.switch (plain ops) ≡ here + (item_length p.switch (Plain op) + items_length p.switch (plain ops)) = omega arith in
+    ap (λ (x : List ℕ). spelling (op_at p.area op) ++ x) (plain_bytes p next ops rest ∙ ap (λ (n : ℕ). items_bytes p next (plain ops) ++ items_bytes p n rest) e)
+    ∙ sym (append_assoc (spelling (op_at p.area op)) (items_bytes p next (plain ops)) _)
+
+pub plain_laid : (ops : List Op) (rest : List FlowOp) → All IsLaid (plain ops ++ rest) → ArePlaceable ops
+plain_laid [] rest laid = tt
+plain_laid (op ∷ ops) rest laid = (All-head IsLaid (Plain op) (plain ops ++ rest) laid, plain_laid ops rest (All-tail IsLaid (Plain op) (plain ops ++ rest) laid))
+
+module _ (reading : ℕ → Option Instr) (ops : List ℕ → Option Fetched) (P Q : Program) (first entry : ℕ) (words : List ℕ) (decoded : List (Option Instr)) (area : ℕ) (table : List ℕ) (reads : ReadsWords reading) (has : HasWords P first words) (are : AreDecodedAs words decoded) where
   abbrev s : Setting
   s = setting_of reading ops P Q first area table
 
-  abbrev targets : ℕ → ℕ
-  targets = entry_of first table (code_start area)
+  abbrev p : Places
+  p = places_in area first table
 
-  -- the word at a place is fetched and read as its instruction
-  word_at : (k : ℕ) (i : Instr) → k < length words → IsWordOf (slice_index words k) i → IsWordAt s (address_of first k) (Some i)
-  word_at k i lt word g at =
-      let read : reading (code_word (code_of P) (address_of first k)) ≡ Some i = ap reading (has.each k lt) ∙ reads.only (slice_index words k) i word in
+  read_as : (w : ℕ) (o : Option Instr) → IsDecodedAs w o → reading w ≡ o
+  read_as w (Some i) h = reads.only w i h
+  read_as w None h = by_reading (reading w) refl
+    where
+      by_reading : (o : Option Instr) → reading w ≡ o → reading w ≡ None
+      by_reading (Some i) e = absurd (h i (reads.found w i e))
+      by_reading None e = e
+
+  legal_if : (w : ℕ) (o : Option Instr) → IsDecodedAs w o → IsLegalDecoded o
+  legal_if w (Some i) h = h.legal
+  legal_if w None h = tt
+
+  among : (k : ℕ) → k < length decoded → k < length words
+  among k lt = let e = are.count in omega (arith, e, lt)
+
+  -- the word at a place is fetched and read as it is decoded
+  word_at : (k : ℕ) → k < length decoded → IsWordAt s (address_of first k) (decoded_at decoded k)
+  word_at k lt g at =
+      let read : reading (code_word (code_of P) (address_of first k)) ≡ decoded_at decoded k = ap reading (has.each k (among k lt)) ∙ read_as (slice_index words k) (decoded_at decoded k) (are.each k (among k lt)) in
       ap (λ (a : ℕ). cond (is_code_word (code_of P) a) (executes (rights_of P) (reading (code_word (code_of P) a)) g) (Ends Outside)) at
-      ∙ ap (λ (b : Bool). cond b (executes (rights_of P) (reading (code_word (code_of P) (address_of first k))) g) (Ends Outside)) (has.here k lt)
+      ∙ ap (λ (b : Bool). cond b (executes (rights_of P) (reading (code_word (code_of P) (address_of first k))) g) (Ends Outside)) (has.here k (among k lt))
       ∙ ap (λ (o : Option Instr). executes (rights_of P) o g) read
 
-  kind_at : (k : ℕ) (i : Instr) → k < length words → IsWordOf (slice_index words k) i → Kind i
-  kind_at k i lt word =
-      let b = built k lt in
-      kind_of i (subst IsBuilt (one_of (slice_index words k) b.instr i b.spelled word) b.built) word.legal
-
-  laid_items : (k : ℕ) (i : Instr) (ends : Bool) → k < length words → IsWordOf (slice_index words k) i → All IsLaid (items i (address_of first k) ends)
-  laid_items k i ends lt word =
-      let b = built k lt in
-      items-laid i (address_of first k) ends (items i (address_of first k) ends) (subst IsBuilt (one_of (slice_index words k) b.instr i b.spelled word) b.built) word.legal refl
-
-  none_of : (a : ℕ) → Contains [] a → ⊥
-  none_of a c = let lt = c.1 in omega arith
-
-  inside : (i : Instr) → IsStraightWord i → IsInside s (window_of i)
-  inside i st = record {
-    loads = λ g g' a e c. absurd (none_of a (subst (λ (xs : List ℕ). Contains xs a) (st.loads g) c));
-    stores = λ g g' a e c. absurd (none_of a (subst (λ (xs : List ℕ). Contains xs a) (st.stores g) c));
-  }
-
-  tile_at : (k here end : ℕ) (i : Instr) → k < length words → IsWordOf (slice_index words k) i → IsStraightWord i → StandAt s.host s.host_step here (map (op_at area) (alu_tile i no_registers)) end →
-      TileAt s no_registers (address_of first k) (i ∷ []) (window_of i) (map (op_at area) (alu_tile i no_registers)) here end
-  tile_at k here end i lt word st stands = record {
-    some = omega arith;
-    few = omega (arith, length-map (alu_tile i no_registers) (op_at area), st.few);
-    fetched = (word_at k i lt word, st.linked (rights_of P), tt);
-    rows = λ g. st.rows (rights_of P) g;
-    inside = inside i st;
-    does = st.does area;
-    stands = stands;
-  }
-
-  -- The steps of a block from the word at a place on, whose code stands at an address; up to which place they may go.
+  -- The steps of a block from the word at a place on, whose items stand at an address; up to which place they may go.
   pub record BlockFrom (k here bound : ℕ) : Type 0 where
     pub steps : List PlanStep
-    pub stands : BlockAt s no_registers (address_of first k) here steps
+    pub right : AreRight s no_registers (address_of first k) steps
+    pub map_stays : last_map no_registers steps ≡ no_registers
+    pub bytes : HasBytes (code_of Q) here (items_bytes p here (plan_items (address_of first k) steps))
     pub few : HasFewMoves steps
     pub begins_few : room steps ≡ 0
     pub count : word_count steps + k ≤ bound
 
-  module _ (runs : RunsCode s (code_of Q) ops) (bounded : (address : ℕ) → targets address < 2 ^ 32) where
-    -- an edge without moves
-    edge_at : (next here : ℕ) → JumpsTo s here (targets next) → EdgeAt s no_registers next here
-    edge_at next here jumps = ([], omega arith, (refl, jumps))
+  -- the address behind a code word is the next code word's, were there one
+  next_word : (k : ℕ) → k < length decoded → behind (address_of first k) ≡ address_of first (k + 1)
+  next_word k lt = let lows : address_of first (length words) < 2 ^ 32 = has.low in omega (arith, lows, among k lt)
 
-    -- ops before other items
-    plain_stand : (list : List Op) (rest : List FlowOp) (here : ℕ) → All IsLaid (map (λ op. Plain op) list ++ rest) → HasBytes (code_of Q) here (items_bytes area targets here (map (λ op. Plain op) list ++ rest)) →
-        (end : ℕ) × StandAt s.host s.host_step here (map (op_at area) list) end × HasBytes (code_of Q) end (items_bytes area targets end rest) × (here + items_length (map (λ op. Plain op) list ++ rest) ≡ end + items_length rest)
-    unfolding items_length
-    plain_stand [] rest here laid h = (here, refl, h, refl)
-    plain_stand (op ∷ list) rest here laid h =
-        let next : ℕ = here + item_length (Plain op) in
-        let on = plain_stand list rest next (All-tail IsLaid _ _ laid) (other_items s (code_of Q) ops targets runs here (Plain op) (map (λ op. Plain op) list ++ rest) h) in
-        (on.0, (next, op_at_place s (code_of Q) ops targets runs here op (map (λ op. Plain op) list ++ rest) low (All-head IsLaid _ _ laid) h, on.1), on.2, omega (arith, on.3))
+  -- a word that goes on, before steps
+  word_before : (k : ℕ) (i : Instr) (steps : List PlanStep) (rest : List FlowOp) → k < length decoded → IsWordAt s (address_of first k) (Some i) → IsStraightWord i → All IsLaid (plain (word_ops i no_registers) ++ rest) →
+      AreRight s no_registers (behind (address_of first k)) steps → AreRight s no_registers (address_of first k) (Tile (i ∷ []) (window_of i) (word_ops i no_registers) ∷ steps)
+  word_before k i steps rest lt word st laid right = (
+    straight_tile s (programs_write_held P) i st (address_of first k) word,
+    plain_laid (word_ops i no_registers) rest laid,
+    (λ x e. absurd (false≢true e)),
+    straight_leads s (programs_write_held P) i st (address_of first k),
+    right,
+  )
 
-    -- the address behind a code word is the next code word's, were there one
-    next_word : (k : ℕ) → k < length words → behind (address_of first k) ≡ address_of first (k + 1)
-    next_word k lt = let lows : address_of first (length words) < 2 ^ 32 = has.low in omega (arith, lows, lt)
+  -- a word that goes on, at the end of its block
+  last_word : (k here : ℕ) (i : Instr) (bound : ℕ) → k < length decoded → IsWordAt s (address_of first k) (Some i) → IsStraightWord i → k + 1 ≤ bound →
+      All IsLaid (straight i (address_of first k) true) → HasBytes (code_of Q) here (items_bytes p here (straight i (address_of first k) true)) → BlockFrom k here bound
+  last_word k here i bound lt word st le laid h = record {
+    steps = Tile (i ∷ []) (window_of i) (word_ops i no_registers) ∷ [];
+    right = word_before k i [] (Edge (behind (address_of first k)) ∷ []) lt word st laid tt;
+    map_stays = refl;
+    bytes = h;
+    few = (omega arith, tt);
+    begins_few = refl;
+    count = omega (arith, le);
+  }
 
-    -- a word that goes on, at the end of its block
-    last_word : (k here : ℕ) (i : Instr) (bound : ℕ) → k < length words → IsWordOf (slice_index words k) i → IsStraightWord i → k + 1 ≤ bound →
-        All IsLaid (map (λ op. Plain op) (alu_tile i no_registers) ++ Edge (next_address (address_of first k)) ∷ []) → HasBytes (code_of Q) here (items_bytes area targets here (map (λ op. Plain op) (alu_tile i no_registers) ++ Edge (next_address (address_of first k)) ∷ [])) → BlockFrom k here bound
-    last_word k here i bound lt word st le laid h =
-        let p = plain_stand (alu_tile i no_registers) (Edge (next_address (address_of first k)) ∷ []) here laid h in
-        let jumps : JumpsTo s p.0 (targets (behind (address_of first k))) = jump_leads s (code_of Q) ops p.0 (targets (behind (address_of first k))) runs (bounded (behind (address_of first k))) (first_item s (code_of Q) ops targets runs p.0 (Edge (next_address (address_of first k))) [] p.2) in
-        record {
-          steps = Tile (i ∷ []) (window_of i) (map (op_at area) (alu_tile i no_registers)) ∷ [];
-          stands = (p.0, tile_at k here p.0 i lt word st p.1, (λ x e. absurd (false≢true e)), (λ g g' at e. st.next (rights_of P) g g' e ∙ ap behind at), edge_at (behind (address_of first k)) p.0 jumps);
-          few = (omega arith, tt);
-          begins_few = refl;
-          count = omega (arith, le);
-        }
+  -- a word that goes on, before the rest of its block
+  inner_word : (k here : ℕ) (i : Instr) (bound : ℕ) → k < length decoded → IsWordAt s (address_of first k) (Some i) → IsStraightWord i →
+      All IsLaid (straight i (address_of first k) false) → HasBytes (code_of Q) here (items_bytes p here (straight i (address_of first k) false)) →
+      BlockFrom (k + 1) (here + items_length no_moves (straight i (address_of first k) false)) bound → BlockFrom k here bound
+  inner_word k here i bound lt word st laid h rest =
+      let tile : List FlowOp = plain (word_ops i no_registers) in
+      let alone : straight i (address_of first k) false ≡ tile = append-nil tile in
+      let there : ℕ = here + items_length no_moves tile in
+      let next : address_of first (k + 1) ≡ behind (address_of first k) = sym (next_word k lt) in
+      let tail : List FlowOp = plan_items (behind (address_of first k)) rest.steps in
+      let front : HasBytes (code_of Q) here (items_bytes p here tile) = subst (λ (x : List FlowOp). HasBytes (code_of Q) here (items_bytes p here x)) alone h in
+      let back : HasBytes (code_of Q) there (items_bytes p there tail) =
+      subst (λ (w : ℕ). HasBytes (code_of Q) there (items_bytes p there (plan_items w rest.steps))) next
+      (subst (λ (x : List FlowOp). HasBytes (code_of Q) (here + items_length no_moves x) (items_bytes p (here + items_length no_moves x) (plan_items (address_of first (k + 1)) rest.steps))) alone rest.bytes) in
+      let long : here + length (items_bytes p here tile) ≡ there = ap (λ (n : ℕ). here + n) (bytes_length p here tile) in
+      record {
+        steps = Tile (i ∷ []) (window_of i) (word_ops i no_registers) ∷ rest.steps;
+        right = word_before k i rest.steps [] lt word st laid (subst (λ (w : ℕ). AreRight s no_registers w rest.steps) next rest.right);
+        map_stays = rest.map_stays;
+        bytes = subst (HasBytes (code_of Q) here) (sym (plain_bytes p here (word_ops i no_registers) tail)) (join_bytes (code_of Q) here (items_bytes p here tile) (items_bytes p there tail) front (subst (λ (a : ℕ). HasBytes (code_of Q) a (items_bytes p there tail)) (sym long) back));
+        few = (omega (arith, rest.begins_few), rest.few);
+        begins_few = refl;
+        count = omega (arith, rest.count);
+      }
 
-    -- a word that goes on, before the rest of its block
-    inner_word : (k here : ℕ) (i : Instr) (bound : ℕ) → k < length words → IsWordOf (slice_index words k) i → IsStraightWord i →
-        All IsLaid (map (λ op. Plain op) (alu_tile i no_registers) ++ []) → HasBytes (code_of Q) here (items_bytes area targets here (map (λ op. Plain op) (alu_tile i no_registers) ++ [])) →
-        BlockFrom (k + 1) (here + items_length (map (λ op. Plain op) (alu_tile i no_registers) ++ [])) bound → BlockFrom k here bound
-    unfolding items_length
-    inner_word k here i bound lt word st laid h rest =
-        let p = plain_stand (alu_tile i no_registers) [] here laid h in
-        let there : here + items_length (map (λ op. Plain op) (alu_tile i no_registers) ++ []) ≡ p.0 = omega (arith, p.3) in
-        let behind_is : address_of first (k + 1) ≡ behind (address_of first k) = sym (next_word k lt) in
-        record {
-          steps = Tile (i ∷ []) (window_of i) (map (op_at area) (alu_tile i no_registers)) ∷ rest.steps;
-          stands = (
-            p.0,
-            tile_at k here p.0 i lt word st p.1,
-            (λ x e. absurd (false≢true e)),
-            (λ g g' at e. st.next (rights_of P) g g' e ∙ ap behind at),
-            subst (λ (w : ℕ). BlockAt s no_registers w p.0 rest.steps) behind_is (subst (λ (a : ℕ). BlockAt s no_registers (address_of first (k + 1)) a rest.steps) there rest.stands),
-          );
-          few = (omega (arith, rest.begins_few), rest.few);
-          begins_few = refl;
-          count = omega (arith, rest.count);
-        }
+  -- a flow word or an illegal one, which ends its block
+  flow_word : (k here : ℕ) (o : Option Instr) (tile : ℕ → List FlowOp) (bound : ℕ) → IsWordAt s (address_of first k) o → length (tile (address_of first k)) ≤ 100 → AreMarked (tile (address_of first k)) → FlowDoesWord o no_registers tile → k + 1 ≤ bound →
+      All IsLaid (tile (address_of first k)) → HasBytes (code_of Q) here (items_bytes p here (tile (address_of first k))) → BlockFrom k here bound
+  flow_word k here o tile bound word few marked does le laid h = record {
+    steps = FlowTile o (tile (address_of first k)) ∷ [];
+    right = (
+      record {
+        few = few;
+        fetched = word;
+        fits = λ g core choices at before. subst (λ (w : ℕ). Fits no_registers area (rights_of P) core (executes (rights_of P) o g) (flow s.host area (tile w) None choices core)) at (does area (rights_of P) s.host g core choices before);
+      },
+      laid,
+      marked,
+      (λ leaps. refl),
+    );
+    map_stays = refl;
+    bytes = h;
+    few = (omega arith, tt);
+    begins_few = refl;
+    count = omega (arith, le);
+  }
 
-    -- a flow word, which ends its block
-    flow_word : (k here : ℕ) (i : Instr) (bound : ℕ) → k < length words → IsWordOf (slice_index words k) i → IsFlowingWord i → k + 1 ≤ bound →
-        All IsLaid (flow_tile i (address_of first k) no_registers) → HasBytes (code_of Q) here (items_bytes area targets here (flow_tile i (address_of first k) no_registers)) → BlockFrom k here bound
-    flow_word k here i bound lt word fl le laid h =
-        let tile : List FlowOp = flow_tile i (address_of first k) no_registers in
-        let both = items_stand s (code_of Q) ops targets here tile runs low bounded laid (fl.marked (address_of first k)) h in
-        record {
-          steps = FlowTile (Some i) tile ∷ [];
-          stands = record {
-            few = fl.few (address_of first k);
-            fetched = word_at k i lt word;
-            labels = labels_of here tile;
-            edges = edges_of here tile;
-            stand = both.0;
-            edges_stand = λ e c. edge_at e.target e.at (both.1 e c);
-            fits = λ g core choices at before. subst (λ (w : ℕ). Fits no_registers area (rights_of P) core (guest_acts (rights_of P) i (effect_of i g) g) (flow s.host area (flow_tile i w no_registers) None choices core)) at (fl.does area (rights_of P) s.host g core choices before);
-          };
-          few = (omega arith, tt);
-          begins_few = refl;
-          count = omega (arith, le);
-        }
+  by_end : (k here : ℕ) (i : Instr) (bound : ℕ) (ends : Bool) → k < length decoded → IsWordAt s (address_of first k) (Some i) → IsStraightWord i → k + 1 ≤ bound →
+      All IsLaid (straight i (address_of first k) ends) → HasBytes (code_of Q) here (items_bytes p here (straight i (address_of first k) ends)) →
+      (ends ≡ false → BlockFrom (k + 1) (here + items_length no_moves (straight i (address_of first k) ends)) bound) → BlockFrom k here bound
+  by_end k here i bound true lt word st le laid h rest = last_word k here i bound lt word st le laid h
+  by_end k here i bound false lt word st le laid h rest = inner_word k here i bound lt word st laid h (rest refl)
 
-    by_end : (k here : ℕ) (i : Instr) (bound : ℕ) (ends : Bool) → k < length words → IsWordOf (slice_index words k) i → IsStraightWord i → k + 1 ≤ bound →
-        All IsLaid (straight i (address_of first k) ends) → HasBytes (code_of Q) here (items_bytes area targets here (straight i (address_of first k) ends)) →
-        (ends ≡ false → BlockFrom (k + 1) (here + items_length (straight i (address_of first k) ends)) bound) → BlockFrom k here bound
-    by_end k here i bound true lt word st le laid h rest = last_word k here i bound lt word st le laid h
-    by_end k here i bound false lt word st le laid h rest = inner_word k here i bound lt word st laid h (rest refl)
+  by_kind : (k here : ℕ) (i : Instr) (bound : ℕ) (ends : Bool) → Kind i → k < length decoded → IsWordAt s (address_of first k) (Some i) → k + 1 ≤ bound →
+      All IsLaid (items (Some i) (address_of first k) ends) → HasBytes (code_of Q) here (items_bytes p here (items (Some i) (address_of first k) ends)) →
+      (ends ≡ false → BlockFrom (k + 1) (here + items_length no_moves (items (Some i) (address_of first k) ends)) bound) → BlockFrom k here bound
+  by_kind k here i bound ends (flowing fl) lt word le laid h rest =
+      let same : items (Some i) (address_of first k) ends ≡ flow_tile i (address_of first k) no_registers = ap (λ (b : Bool). cond b (flow_tile i (address_of first k) no_registers) (straight i (address_of first k) ends)) fl.flow in
+      flow_word k here (Some i) (λ at. flow_tile i at no_registers) bound word (fl.few (address_of first k)) (fl.marked (address_of first k)) fl.does le (subst (All IsLaid) same laid) (subst (λ (t : List FlowOp). HasBytes (code_of Q) here (items_bytes p here t)) same h)
+  by_kind k here i bound ends (straight_kind st) lt word le laid h rest =
+      let same : items (Some i) (address_of first k) ends ≡ straight i (address_of first k) ends = ap (λ (b : Bool). cond b (flow_tile i (address_of first k) no_registers) (straight i (address_of first k) ends)) st.straight in
+      by_end k here i bound ends lt word st le (subst (All IsLaid) same laid) (subst (λ (t : List FlowOp). HasBytes (code_of Q) here (items_bytes p here t)) same h)
+      (λ e. subst (λ (t : List FlowOp). BlockFrom (k + 1) (here + items_length no_moves t) bound) same (rest e))
 
-    by_kind : (k here : ℕ) (i : Instr) (bound : ℕ) (ends : Bool) → Kind i → k < length words → IsWordOf (slice_index words k) i → k + 1 ≤ bound →
-        All IsLaid (items i (address_of first k) ends) → HasBytes (code_of Q) here (items_bytes area targets here (items i (address_of first k) ends)) →
-        (ends ≡ false → BlockFrom (k + 1) (here + items_length (items i (address_of first k) ends)) bound) → BlockFrom k here bound
-    by_kind k here i bound ends (flowing fl) lt word le laid h rest =
-        let same : items i (address_of first k) ends ≡ flow_tile i (address_of first k) no_registers = ap (λ (b : Bool). cond b (flow_tile i (address_of first k) no_registers) (straight i (address_of first k) ends)) fl.flow in
-        flow_word k here i bound lt word fl le (subst (All IsLaid) same laid) (subst (λ (t : List FlowOp). HasBytes (code_of Q) here (items_bytes area targets here t)) same h)
-    by_kind k here i bound ends (straight_kind st) lt word le laid h rest =
-        let same : items i (address_of first k) ends ≡ straight i (address_of first k) ends = ap (λ (b : Bool). cond b (flow_tile i (address_of first k) no_registers) (straight i (address_of first k) ends)) st.straight in
-        by_end k here i bound ends lt word st le (subst (All IsLaid) same laid) (subst (λ (t : List FlowOp). HasBytes (code_of Q) here (items_bytes area targets here t)) same h)
-        (λ e. subst (λ (t : List FlowOp). BlockFrom (k + 1) (here + items_length t) bound) same (rest e))
+  by_decoded : (k here : ℕ) (o : Option Instr) (bound : ℕ) (ends : Bool) → IsLegalDecoded o → k < length decoded → IsWordAt s (address_of first k) o → k + 1 ≤ bound →
+      All IsLaid (items o (address_of first k) ends) → HasBytes (code_of Q) here (items_bytes p here (items o (address_of first k) ends)) →
+      (ends ≡ false → BlockFrom (k + 1) (here + items_length no_moves (items o (address_of first k) ends)) bound) → BlockFrom k here bound
+  by_decoded k here (Some i) bound ends legal lt word le laid h rest = by_kind k here i bound ends (kind_of i legal) lt word le laid h rest
+  by_decoded k here None bound ends legal lt word le laid h rest = flow_word k here None (λ at. flows_of illegal_items no_registers) bound word (omega arith) tt (illegal_tile_does_word no_registers is_map) le laid h
 
-    -- From a word that is laid out its block goes on: to its end, or to the next word.
-    pub word_block : (laid : Laid) (order : List Laid) (here bound : ℕ) → laid.place < length words → laid.place + 1 ≤ bound → (h : LaidAt first words area targets (code_of Q) here (laid ∷ order)) →
-        (laid.ends ≡ false → BlockFrom (laid.place + 1) (here + items_length (items_at first words area targets (code_of Q) laid h.0)) bound) → BlockFrom laid.place here bound
-    word_block laid order here bound lt le h rest =
-        by_kind laid.place here h.0 bound laid.ends (kind_at laid.place h.0 lt h.1) lt h.1 le (laid_items laid.place h.0 laid.ends lt h.1) h.2 rest
+  -- From a word that is laid out its block goes on: to its end, or to the next word.
+  pub word_block : (laid : Laid) (order : List Laid) (here bound : ℕ) → laid.place < length decoded → laid.place + 1 ≤ bound → LaidAt decoded p (code_of Q) here (laid ∷ order) →
+      (laid.ends ≡ false → BlockFrom (laid.place + 1) (here + items_length no_moves (laid_items first decoded laid)) bound) → BlockFrom laid.place here bound
+  word_block laid order here bound lt le h rest =
+      let legal = legal_if (slice_index words laid.place) (decoded_at decoded laid.place) (are.each laid.place (among laid.place lt)) in
+      by_decoded laid.place here (decoded_at decoded laid.place) bound laid.ends legal lt (word_at laid.place lt) le (items-laid (decoded_at decoded laid.place) (address_of first laid.place) laid.ends (laid_items first decoded laid) legal refl) h.0 rest
 
-    module _ (leaders : List Bool) (count : length leaders ≡ length words) (each : (k : ℕ) → k < length words → IsSet leaders k ↔ IsLeader first entry words k) (tail : List Laid) where
-      -- from a word of a leader's block on, with `more` words behind it before the tail
-      pub leader_block : (base more place here : ℕ) → base < length words → get_or leaders base false ≡ true → place + suc more ≡ length words → base ≤ place → NoneBetween leaders base place →
-          LaidAt first words area targets (code_of Q) here (map (in_block leaders) (range_with_len place (suc more)) ++ tail) → BlockFrom place here (base + 64)
-      leader_block base zero place here lt leads e le none h =
-          let low : place < length words = omega (arith, e) in
-          let short : place < base + 64 = block_is_short first entry words leaders each base place lt low leads none in
-          word_block (in_block leaders place) tail here (base + 64) low (omega (arith, short)) h (λ inner. absurd (let l = in_list leaders (place + 1) inner in omega (arith, l, e, count)))
-      leader_block base (suc more) place here lt leads e le none h =
-          let low : place < length words = omega (arith, e) in
-          let short : place < base + 64 = block_is_short first entry words leaders each base place lt low leads none in
-          word_block (in_block leaders place) (map (in_block leaders) (range_with_len (place + 1) (suc more)) ++ tail) here (base + 64) low (omega (arith, short)) h
-          (λ inner. leader_block base more (place + 1) (here + items_length (items_at first words area targets (code_of Q) (in_block leaders place) h.0)) lt leads (omega (arith, e)) (omega (arith, le)) (one_more leaders base place inner none) h.3)
+  module _ (leaders : List Bool) (count : length leaders ≡ length decoded) (each : (k : ℕ) → k < length decoded → IsSet leaders k ↔ IsLeader first entry decoded k) (tail : List Laid) where
+    -- from a word of a leader's block on, with `more` words behind it before the tail
+    pub leader_block : (base more place here : ℕ) → base < length decoded → get_or leaders base false ≡ true → place + suc more ≡ length decoded → base ≤ place → NoneBetween leaders base place →
+        LaidAt decoded p (code_of Q) here (map (in_block leaders) (range_with_len place (suc more)) ++ tail) → BlockFrom place here (base + 64)
+    leader_block base zero place here lt leads e le none h =
+        let low : place < length decoded = omega (arith, e) in
+        let short : place < base + 64 = block_is_short first entry decoded leaders each base place lt low leads none in
+        word_block (in_block leaders place) tail here (base + 64) low (omega (arith, short)) h (λ inner. absurd (let l = in_list leaders (place + 1) inner in omega (arith, l, e, count)))
+    leader_block base (suc more) place here lt leads e le none h =
+        let low : place < length decoded = omega (arith, e) in
+        let short : place < base + 64 = block_is_short first entry decoded leaders each base place lt low leads none in
+        word_block (in_block leaders place) (map (in_block leaders) (range_with_len (place + 1) (suc more)) ++ tail) here (base + 64) low (omega (arith, short)) h
+        (λ inner. leader_block base more (place + 1) (here + items_length no_moves (laid_items first decoded (in_block leaders place))) lt leads (omega (arith, e)) (omega (arith, le)) (one_more leaders base place inner none) h.1)

@@ -16,13 +16,16 @@ use Rattle.machines.specs.Guest.{is_code_word, code_word, executes}
 use Rattle.simulation.specs.Setting.{Setting, IsOffCode, JumpsTo}
 use Rattle.simulation.specs.Plan.{BlockAt, Begins}
 use Rattle.code_layout.specs.Blocks.{address_of, in_block, alone, singles, code_order}
-use Rattle.code_layout.specs.Code.{no_registers, place_of, entry_of}
+use Rattle.code_layout.specs.Places.{no_registers, no_moves, place_of, entry_of, Places, places_in}
+use Rattle.code_layout.specs.Layout.{laid_bytes}
 use Rattle.code_layout.specs.declared.blocks.Laid.{Laid}
 use Rattle.laid_code.specs.Bytes.{HasBytes, RunsCode}
-use Rattle.laid_code.specs.Instance.{code_start, setting_of, HasWords, AreBuilt, HasCodeFor}
+use Rattle.laid_code.specs.Instance.{code_start, setting_of, HasWords, AreDecodedAs, HasCodeFor}
 use Rattle.laid_code.specs.Laws.{IsBlockOrOff, BlocksStand, HoldStands}
 use Rattle.laid_code.proofs.Decoding.{first_bytes_at, next_bytes_at, ends_low, jump_leads}
 use Rattle.laid_code.proofs.Laid.{LaidAt, laid_at, Found, leading, behind, find_leader, find_single}
+use Rattle.laid_code.specs.Items.{ArePlaced}
+use Rattle.laid_code.proofs.Plans.{plans_stand}
 use Rattle.laid_code.proofs.Blocks.{BlockFrom, word_block, leader_block}
 
 -- where an edge to a code word leads
@@ -32,7 +35,7 @@ entry_at first table hold k lt =
     let same : (address_of first k == address_of first k) ≡ true = grind (arith, nat_tests) in
     rw (place, same) (get_or_default table k hold 0 lt)
 
-entry_or_hold : (first : ℕ) (table : List ℕ) (hold : ℕ) (P : ℕ → Type 0) (a : ℕ) → P hold → ((k : ℕ) → k < length table → a ≡ address_of first k → P (slice_index table k)) → P (entry_of first table hold a)
+pub entry_or_hold : (first : ℕ) (table : List ℕ) (hold : ℕ) (P : ℕ → Type 0) (a : ℕ) → P hold → ((k : ℕ) → k < length table → a ≡ address_of first k → P (slice_index table k)) → P (entry_of first table hold a)
 entry_or_hold first table hold P a off on = by (a == address_of first (place_of first a)) refl
   where
     inner : (k : ℕ) → a ≡ address_of first k → (k < length table) ⊎ (length table ≤ k) → P (slice_index_or table k hold)
@@ -43,12 +46,15 @@ entry_or_hold first table hold P a off on = by (a == address_of first (place_of 
     by true e = inner (place_of first a) (eqb-true a (address_of first (place_of first a)) e) (cases_lt (place_of first a) (length table))
     by false e = off
 
-module _ (reading : ℕ → Option Instr) (ops : List ℕ → Option Fetched) (P Q : Program) (first entry : ℕ) (words : List ℕ) (area : ℕ) (table : List ℕ) (reads_ops : ReadsOps ops) (carried : HasCodeFor Q first entry words area table) where
+module _ (reading : ℕ → Option Instr) (ops : List ℕ → Option Fetched) (P Q : Program) (first entry : ℕ) (decoded : List (Option Instr)) (area : ℕ) (table : List ℕ) (reads_ops : ReadsOps ops) (carried : HasCodeFor Q first entry decoded area table) where
   abbrev s : Setting
   s = setting_of reading ops P Q first area table
 
   abbrev targets : ℕ → ℕ
   targets = entry_of first table (code_start area)
+
+  abbrev p : Places
+  p = places_in area first table
 
   runs : RunsCode s (code_of Q) ops
   runs = record { reads = reads_ops; low = let l = carried.low in let a = carried.at in omega (arith, l, a); steps = λ h. refl }
@@ -57,21 +63,24 @@ module _ (reading : ℕ → Option Instr) (ops : List ℕ → Option Fetched) (P
   whole : HasBytes (code_of Q) (code_start area) (code_of Q).bytes
   whole = record { before = []; behind = []; cut = sym (append-nil (code_of Q).bytes); begins = let a = carried.at in omega (arith, a) }
 
-  holding : HasBytes (code_of Q) (code_start area) (spelling (Jmp (2 ^ 32 - 5)) ++ carried.code.laid.0)
-  holding = subst (HasBytes (code_of Q) (code_start area)) carried.code.laid.1 whole
+  abbrev all_bytes : List ℕ
+  all_bytes = laid_bytes decoded p (code_start area + 5) (code_order carried.code.leaders)
+
+  holding : HasBytes (code_of Q) (code_start area) (spelling (Jmp (2 ^ 32 - 5)) ++ all_bytes)
+  holding = subst (HasBytes (code_of Q) (code_start area)) carried.code.laid whole
 
   hold_low : code_start area + 5 < 2 ^ 32
-  hold_low = ends_low s (code_of Q) ops (code_start area) (spelling (Jmp (2 ^ 32 - 5))) runs (first_bytes_at (code_of Q) (code_start area) (spelling (Jmp (2 ^ 32 - 5))) carried.code.laid.0 holding)
+  hold_low = ends_low s (code_of Q) ops (code_start area) (spelling (Jmp (2 ^ 32 - 5))) runs (first_bytes_at (code_of Q) (code_start area) (spelling (Jmp (2 ^ 32 - 5))) all_bytes holding)
 
   pub hold_jumps : JumpsTo s (code_start area) (code_start area)
   hold_jumps =
       let low : code_start area + 5 < 2 ^ 32 = hold_low in
       let rel : 2 ^ 32 - 5 ≡ (code_start area + (2 ^ 32 - (code_start area + 5))) % 2 ^ 32 = omega (arith, low) in
-      jump_leads s (code_of Q) ops (code_start area) (code_start area) runs (omega (arith, low)) (subst (λ (r : ℕ). HasBytes (code_of Q) (code_start area) (spelling (Jmp r))) rel (first_bytes_at (code_of Q) (code_start area) (spelling (Jmp (2 ^ 32 - 5))) carried.code.laid.0 holding))
+      jump_leads s (code_of Q) ops (code_start area) (code_start area) runs (omega (arith, low)) (subst (λ (r : ℕ). HasBytes (code_of Q) (code_start area) (spelling (Jmp r))) rel (first_bytes_at (code_of Q) (code_start area) (spelling (Jmp (2 ^ 32 - 5))) all_bytes holding))
 
   -- all words stand behind it
-  laid : LaidAt first words area targets (code_of Q) (code_start area + 5) (code_order carried.code.leaders)
-  laid = laid_at first words area targets (code_of Q) (code_start area + 5) (code_order carried.code.leaders) carried.code.laid.0 carried.code.laid.2 (next_bytes_at (code_of Q) (code_start area) (spelling (Jmp (2 ^ 32 - 5))) carried.code.laid.0 holding)
+  laid : LaidAt decoded p (code_of Q) (code_start area + 5) (code_order carried.code.leaders)
+  laid = laid_at decoded p (code_of Q) (code_start area + 5) (code_order carried.code.leaders) (next_bytes_at (code_of Q) (code_start area) (spelling (Jmp (2 ^ 32 - 5))) all_bytes holding)
 
   abbrev single_places : List ℕ
   single_places = filter (λ place. not (get_or carried.code.leaders place false)) (range_with_len 0 (length carried.code.leaders))
@@ -79,54 +88,66 @@ module _ (reading : ℕ → Option Instr) (ops : List ℕ → Option Fetched) (P
   abbrev single_blocks : List Laid
   single_blocks = singles carried.code.leaders (length carried.code.leaders)
 
-  found : (k : ℕ) → k < length words → Found first words area targets (code_of Q) carried.code.leaders single_blocks (length carried.code.leaders) k (slice_index table k)
-  found k lt = find_leader first words area targets (code_of Q) carried.code.leaders single_blocks (length carried.code.leaders) k (slice_index table k) (code_start area + 5) 0 (length carried.code.leaders) (omega arith) laid (carried.code.entries k lt)
+  found : (k : ℕ) → k < length decoded → Found decoded p (code_of Q) carried.code.leaders single_blocks (length carried.code.leaders) k (slice_index table k)
+  found k lt = find_leader decoded p (code_of Q) carried.code.leaders single_blocks (length carried.code.leaders) k (slice_index table k) (code_start area + 5) 0 (length carried.code.leaders) (omega arith) laid (carried.code.entries k lt)
 
   -- every entry lies in the code
-  laid_low : (here : ℕ) (word : Laid) (order : List Laid) → LaidAt first words area targets (code_of Q) here (word ∷ order) → here < 2 ^ 32
-  laid_low here word order h = omega (arith, ends_low s (code_of Q) ops here _ runs h.2)
+  laid_low : (here : ℕ) (word : Laid) (order : List Laid) → LaidAt decoded p (code_of Q) here (word ∷ order) → here < 2 ^ 32
+  laid_low here word order h = omega (arith, ends_low s (code_of Q) ops here _ runs h.0)
 
-  entry_low : (k : ℕ) → k < length words → slice_index table k < 2 ^ 32
+  pub entry_low : (k : ℕ) → k < length decoded → slice_index table k < 2 ^ 32
   entry_low k lt = by (found k lt)
     where
-      by : Found first words area targets (code_of Q) carried.code.leaders single_blocks (length carried.code.leaders) k (slice_index table k) → slice_index table k < 2 ^ 32
+      by : Found decoded p (code_of Q) carried.code.leaders single_blocks (length carried.code.leaders) k (slice_index table k) → slice_index table k < 2 ^ 32
       by (leading more e set h) = laid_low (slice_index table k) (in_block carried.code.leaders k) (map (in_block carried.code.leaders) (range_with_len (k + 1) more) ++ single_blocks) h
       by (behind here h begins) =
-          let one = find_single first words area targets (code_of Q) single_places k (slice_index table k) here h begins in
+          let one = find_single decoded p (code_of Q) single_places k (slice_index table k) here h begins in
           laid_low (slice_index table k) (alone k) one.0 one.1
 
   bounded : (address : ℕ) → targets address < 2 ^ 32
   bounded address =
       let low : code_start area + 5 < 2 ^ 32 = hold_low in
-      let count : length table ≡ length words = carried.count in
+      let count : length table ≡ length decoded = carried.count in
       entry_or_hold first table (code_start area) (λ t. t < 2 ^ 32) address (omega (arith, low)) (λ k lt e. entry_low k (omega (arith, lt, count)))
 
-  module _ (reads_words : ReadsWords reading) (has : HasWords P first words) (built : AreBuilt words) where
-    page_low : area + 4096 ≤ 2 ^ 32
-    page_low = let low : code_start area + 5 < 2 ^ 32 = hold_low in omega (arith, low)
+  module _ (reads_words : ReadsWords reading) (words : List ℕ) (has : HasWords P first words) (are : AreDecodedAs words decoded) where
+    are_placed : ArePlaced s
+    are_placed =
+        let low : code_start area + 5 < 2 ^ 32 = hold_low in
+        let code_low = has.low in
+        let count = carried.count in
+        let same = are.count in
+        record {
+          area = omega (arith, low);
+          hold = omega (arith, low);
+          table = omega (arith, low);
+          first = omega (arith, code_low);
+          count = omega (arith, code_low, count, same);
+          targets = bounded;
+        }
 
     abbrev Block : ℕ → ℕ → ℕ → Type 0
-    Block k here bound = BlockFrom reading ops P Q first entry words area table reads_words has built page_low k here bound
+    Block k here bound = BlockFrom reading ops P Q first entry words decoded area table reads_words has are k here bound
 
-    block_at : (k : ℕ) → k < length words → Block k (slice_index table k) (k + 64)
+    block_at : (k : ℕ) → k < length decoded → Block k (slice_index table k) (k + 64)
     block_at k lt = by (found k lt)
       where
-        by : Found first words area targets (code_of Q) carried.code.leaders single_blocks (length carried.code.leaders) k (slice_index table k) → Block k (slice_index table k) (k + 64)
+        by : Found decoded p (code_of Q) carried.code.leaders single_blocks (length carried.code.leaders) k (slice_index table k) → Block k (slice_index table k) (k + 64)
         by (leading more e set h) =
-            let count : length carried.code.leaders ≡ length words = carried.code.count in
-            leader_block reading ops P Q first entry words area table reads_words has built page_low runs bounded carried.code.leaders count carried.code.each single_blocks k more k (slice_index table k) lt set (e ∙ count) (omega arith) (λ i low high. absurd (omega (arith, low, high))) h
+            let count : length carried.code.leaders ≡ length decoded = carried.code.count in
+            leader_block reading ops P Q first entry words decoded area table reads_words has are carried.code.leaders count carried.code.each single_blocks k more k (slice_index table k) lt set (e ∙ count) (omega arith) (λ i low high. absurd (omega (arith, low, high))) h
         by (behind here h begins) =
-            let one = find_single first words area targets (code_of Q) single_places k (slice_index table k) here h begins in
-            word_block reading ops P Q first entry words area table reads_words has built page_low runs bounded (alone k) one.0 (slice_index table k) (k + 64) lt (omega arith) one.1 (λ inner. absurd (false≢true (sym inner)))
+            let one = find_single decoded p (code_of Q) single_places k (slice_index table k) here h begins in
+            word_block reading ops P Q first entry words decoded area table reads_words has are (alone k) one.0 (slice_index table k) (k + 64) lt (omega arith) one.1 (λ inner. absurd (false≢true (sym inner)))
 
-    begins : (k : ℕ) → k < length words → Begins s (address_of first k)
+    begins : (k : ℕ) → k < length decoded → Begins s (address_of first k)
     begins k lt =
         let b = block_at k lt in
-        let count : length table ≡ length words = carried.count in
+        let count : length table ≡ length decoded = carried.count in
         let here : slice_index table k ≡ targets (address_of first k) = sym (entry_at first table (code_start area) k (omega (arith, lt, count))) in
         record {
           steps = b.steps;
-          stands = subst (λ (a : ℕ). BlockAt s no_registers (address_of first k) a b.steps) here b.stands;
+          stands = subst (λ (a : ℕ). BlockAt s no_registers (address_of first k) a b.steps) here (plans_stand s no_moves (code_of Q) ops no_registers (address_of first k) (slice_index table k) b.steps runs are_placed (λ next. (omega arith, b.map_stays)) b.right b.bytes);
           in_block = let c = b.count in omega (arith, c);
           few = b.few;
           few_first = let f = b.begins_few in omega (arith, f);
@@ -139,9 +160,9 @@ module _ (reading : ℕ → Option Instr) (ops : List ℕ → Option Fetched) (P
 
     to_hold : (w : ℕ) → is_code_word (code_of P) w ≡ false → targets w ≡ code_start area
     to_hold w off =
-        let count : length table ≡ length words = carried.count in
+        let count : length table ≡ length decoded = carried.count in
         entry_or_hold first table (code_start area) (λ t. t ≡ code_start area) w refl
-        (λ k lt e. absurd (false≢true (sym off ∙ ap (λ (a : ℕ). is_code_word (code_of P) a) e ∙ has.here k (omega (arith, lt, count)))))
+        (λ k lt e. absurd (false≢true (sym off ∙ ap (λ (a : ℕ). is_code_word (code_of P) a) e ∙ has.here k (let same = are.count in omega (arith, lt, count, same)))))
 
     pub blocks_at : (w : ℕ) → IsBlockOrOff s w
     blocks_at w = by (is_code_word (code_of P) w) refl
@@ -149,11 +170,11 @@ module _ (reading : ℕ → Option Instr) (ops : List ℕ → Option Fetched) (P
         by : (b : Bool) → is_code_word (code_of P) w ≡ b → IsBlockOrOff s w
         by true on =
             let k = has.only w on in
-            inl (subst (Begins s) (sym k.2) (begins k.0 k.1))
+            inl (subst (Begins s) (sym k.2) (begins k.0 (let same = are.count in let lt = k.1 in omega (arith, lt, same))))
         by false off = inr (off_code w off, to_hold w off)
 
 pub blocks_stand : BlocksStand
-blocks_stand reading ops P Q first entry words area table reads_words reads_ops has built carried w = blocks_at reading ops P Q first entry words area table reads_ops carried reads_words has built w
+blocks_stand reading ops P Q first entry words decoded area table reads_words reads_ops has are carried w = blocks_at reading ops P Q first entry decoded area table reads_ops carried reads_words words has are w
 
 pub hold_stands : HoldStands
-hold_stands reading ops P Q first entry words area table reads_ops carried = hold_jumps reading ops P Q first entry words area table reads_ops carried
+hold_stands reading ops P Q first entry decoded area table reads_ops carried = hold_jumps reading ops P Q first entry decoded area table reads_ops carried

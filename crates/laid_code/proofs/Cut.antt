@@ -1,6 +1,7 @@
 -- A leader's block has at most 64 words.
-use Rattle.std.proofs.Common.{◌≡◌, ℕ, zero, suc, ◌+◌, ◌<◌, ◌≤◌, Bool, true, false, List, [], ◌∷◌, length, get_or, ◌⊎◌, ◌↔◌, inl, inr, refl, sym, ◌∙◌, subst, arith}
+use Rattle.std.proofs.Common.{◌≡◌, ℕ, zero, suc, ◌+◌, ◌<◌, ◌≤◌, Bool, true, false, List, [], ◌∷◌, length, get_or, ◌⊎◌, ◌↔◌, Option, inl, inr, refl, sym, ◌∙◌, subst, arith}
 use Rattle.std.proofs.lemmas.Bool.{false≢true, cases_lt}
+use Rattle.ppc_isa.specs.declared.instr.Instr.{Instr}
 use Rattle.code_layout.specs.Blocks.{IsSet}
 use Rattle.code_layout.specs.Leaders.{IsBase, IsLeader}
 
@@ -28,7 +29,7 @@ one_more leaders base place e none i low high = by (cases_lt i (place + 1))
         let same : place + 1 ≡ i = omega (arith, le, high) in
         subst (λ (j : ℕ). get_or leaders j false ≡ false) same (unset leaders (place + 1) e)
 
-module _ (first entry : ℕ) (words : List ℕ) (leaders : List Bool) (each : (k : ℕ) → k < length words → IsSet leaders k ↔ IsLeader first entry words k) where
+module _ (first entry : ℕ) (words : List (Option Instr)) (leaders : List Bool) (each : (k : ℕ) → k < length words → IsSet leaders k ↔ IsLeader first entry words k) where
   -- where a block begins by a mark, it is a leader
   base_leads : (k : ℕ) → IsBase first entry words k → IsLeader first entry words k
   base_leads k marked = record {

@@ -1,5 +1,5 @@
 -- Ops whose spellings stand in the code stand there.
-use Rattle.std.proofs.Common.{◌≡◌, ℕ, ◌+◌, ◌-◌, ◌%◌, ◌^◌, ◌<◌, Bool, true, cond, leb, ltb, List, ◌++◌, length, take, drop, Option, Some, refl, ap, ◌∙◌, arith, append_assoc, length-append}
+use Rattle.std.proofs.Common.{◌≡◌, ℕ, ◌+◌, ◌-◌, ◌%◌, ◌^◌, ◌<◌, Bool, true, cond, leb, ltb, List, ◌++◌, length, take, drop, Option, Some, refl, sym, ap, ◌∙◌, arith, append_assoc, length-append}
 use Rattle.std.proofs.Math.Seq.{take-append_seam, drop-append_seam}
 use Rattle.std.proofs.lemmas.List.{take-take, length-take}
 use Rattle.std.proofs.lemmas.Bool.Decides.{nat_tests}
@@ -12,7 +12,7 @@ use Rattle.runs.specs.Machine.{Goes, Ends}
 use Rattle.machines.specs.Memory.{Code, is_code}
 use Rattle.machines.specs.Readings.{Fetched}
 use Rattle.machines.specs.Host.{acts, executes, op_bytes}
-use Rattle.tiles.specs.Standing.{StandsAt}
+use Rattle.symbolic_tiles.specs.Standing.{StandsAt}
 use Rattle.simulation.specs.Setting.{Setting, JumpsTo}
 use Rattle.laid_code.specs.Bytes.{HasBytes, RunsCode}
 
@@ -31,6 +31,20 @@ next_bytes_at code here x y h = record {
   cut = h.cut ∙ simp append_assoc;
   begins = omega (arith, length-append h.before x, h.begins);
 }
+
+-- bytes one behind another stand together
+pub join_bytes : (code : Code) (here : ℕ) (x y : List ℕ) → HasBytes code here x → HasBytes code (here + length x) y → HasBytes code here (x ++ y)
+join_bytes code here x y first next =
+    let whole : (first.before ++ x) ++ first.behind ≡ next.before ++ (y ++ next.behind) = append_assoc first.before x first.behind ∙ sym first.cut ∙ next.cut in
+    let same : length (first.before ++ x) ≡ length next.before = omega (arith, length-append first.before x, first.begins, next.begins) in
+    let rest : first.behind ≡ y ++ next.behind =
+    sym (drop-append_seam (first.before ++ x) first.behind) ∙ ap (λ (z : List ℕ). drop (length (first.before ++ x)) z) whole ∙ ap (λ (n : ℕ). drop n (next.before ++ (y ++ next.behind))) same ∙ drop-append_seam next.before (y ++ next.behind) in
+    record {
+      before = first.before;
+      behind = next.behind;
+      cut = first.cut ∙ ap (λ (z : List ℕ). first.before ++ (x ++ z)) rest ∙ ap (λ (z : List ℕ). first.before ++ z) (sym (append_assoc x y next.behind));
+      begins = first.begins;
+    }
 
 -- a spelling begins twelve bytes from it on
 spelt_in_twelve : (op : Op) (rest : List ℕ) → IsInProfile op → IsSpelt op (take 12 (spelling op ++ rest)) (length (spelling op))

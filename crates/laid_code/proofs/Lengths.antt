@@ -1,14 +1,15 @@
 -- Items have as many bytes as their lengths say, wherever they stand.
-use Rattle.std.proofs.Common.{◌≡◌, ℕ, suc, ◌+◌, ◌≤◌, Bool, true, false, cond, List, [], ◌∷◌, ◌++◌, length, Option, Some, None, refl, sym, ap, ◌∙◌, arith, length-append}
+use Rattle.std.proofs.Common.{◌≡◌, ℕ, suc, ◌+◌, ◌-◌, ◌%◌, ◌^◌, ◌≤◌, Bool, true, false, cond, List, [], ◌∷◌, ◌++◌, length, Option, Some, None, refl, sym, ap, ◌∙◌, arith, length-append}
 use Rattle.ia_codec.specs.Spelling.{spelling, modrm, dword, alu_number, shift_number, unary_number}
 use Rattle.ia_codec.specs.declared.op.Operand.{Operand}
 use Rattle.ia_codec.specs.declared.op.Operand.TheVariants.{Reg, Abs, Base, Pair}
 use Rattle.ia_codec.specs.declared.op.Condition.{Condition}
 use Rattle.ia_codec.specs.declared.op.Op.{Op}
 use Rattle.ia_codec.specs.declared.op.Op.TheVariants.{AluTo, AluFrom, AluImm, TestReg, TestImm, Unary, Imul, MovTo, MovFrom, MovImm, MovToImm, MovHalfTo, MovByteTo, MovByteFrom, Shift, ShiftByCl, Lea, Extend, Bswap, Set, Cmov, Bsr, Cdq, Jcc, Jmp, JmpTo, Int80, Int3, Ud2}
-use Rattle.base_flow.specs.declared.flow_op.FlowOp.{FlowOp}
-use Rattle.base_flow.specs.declared.flow_op.FlowOp.TheVariants.{Plain, Jump, Mark, Edge, Leap}
-use Rattle.code_layout.specs.Code.{operand_at, op_at, jump_on, item_length, items_length, is_mark, before_mark, item_bytes, items_bytes}
+use Rattle.symbolic_tiles.specs.declared.flow_op.FlowOp.{FlowOp}
+use Rattle.symbolic_tiles.specs.declared.flow_op.FlowOp.TheVariants.{Plain, Jump, Mark, Edge, Leap}
+use Rattle.code_layout.specs.Places.{Moves, Places}
+use Rattle.code_layout.specs.Code.{operand_at, op_at, jump_on, spelled, placed, moves_ops, item_length, items_length, is_mark, before_mark, item_bytes, items_bytes}
 
 one : (area n : ℕ) (m : Operand) → length (modrm n (operand_at area m)) ≡ length (modrm n m)
 one area n (Reg m) = refl
@@ -58,31 +59,39 @@ placed_length area Int80 = refl
 placed_length area Int3 = refl
 placed_length area Ud2 = refl
 
+pub all_placed_length : (area : ℕ) (ops : List Op) → length (placed area ops) ≡ length (spelled ops)
+all_placed_length area [] = refl
+all_placed_length area (op ∷ ops) =
+    length-append (spelling (op_at area op)) (placed area ops)
+    ∙ ap (λ k. k + length (placed area ops)) (placed_length area op)
+    ∙ ap (λ k. length (spelling op) + k) (all_placed_length area ops)
+    ∙ sym (length-append (spelling op) (spelled ops))
+
 -- how far a jump leads changes no jump's length
 far : (o : Option Condition) (rel : ℕ) → length (spelling (jump_on o rel)) ≡ length (spelling (jump_on o 0))
 far (Some c) rel = refl
 far None rel = refl
 
-pub one_length : (area : ℕ) (targets : ℕ → ℕ) (here : ℕ) (item : FlowOp) (rest : List FlowOp) → length (item_bytes area targets here item rest) ≡ item_length item
-one_length area targets here (Plain op) rest = placed_length area op
-one_length area targets here (Jump code mark) rest = far _ (before_mark rest mark)
-one_length area targets here (Mark mark) rest = refl
-one_length area targets here (Edge address) rest = refl
-one_length area targets here Leap rest = refl
+pub one_length : (p : Places) (here : ℕ) (item : FlowOp) (rest : List FlowOp) → length (item_bytes p here item rest) ≡ item_length p.switch item
+one_length p here (Plain op) rest = placed_length p.area op
+one_length p here (Jump code mark) rest = far _ (before_mark p.switch rest mark)
+one_length p here (Mark mark) rest = refl
+one_length p here (Edge address) rest = length-append (placed p.area (moves_ops (p.switch address))) (spelling (Jmp ((p.targets address + (2 ^ 32 - (here + length (spelled (moves_ops (p.switch address))) + 5))) % 2 ^ 32))) ∙ ap (λ k. k + 5) (all_placed_length p.area (moves_ops (p.switch address)))
+one_length p here Leap rest = refl
 
-pub bytes_length : (area : ℕ) (targets : ℕ → ℕ) (here : ℕ) (items : List FlowOp) → length (items_bytes area targets here items) ≡ items_length items
+pub bytes_length : (p : Places) (here : ℕ) (items : List FlowOp) → length (items_bytes p here items) ≡ items_length p.switch items
 unfolding items_bytes items_length
-bytes_length area targets here [] = refl
-bytes_length area targets here (item ∷ rest) =
-    length-append (item_bytes area targets here item rest) _
-    ∙ ap (λ k. k + length (items_bytes area targets (here + item_length item) rest)) (one_length area targets here item rest)
-    ∙ ap (λ k. item_length item + k) (bytes_length area targets (here + item_length item) rest)
+bytes_length p here [] = refl
+bytes_length p here (item ∷ rest) =
+    length-append (item_bytes p here item rest) _
+    ∙ ap (λ k. k + length (items_bytes p (here + item_length p.switch item) rest)) (one_length p here item rest)
+    ∙ ap (λ k. item_length p.switch item + k) (bytes_length p (here + item_length p.switch item) rest)
 
 by_mark : (b : Bool) (n m whole : ℕ) → m ≤ whole → cond b 0 (n + m) ≤ n + whole
 by_mark true n m whole le = omega arith
 by_mark false n m whole le = omega arith
 
-pub mark_within : (items : List FlowOp) (mark : ℕ) → before_mark items mark ≤ items_length items
+pub mark_within : (switch : ℕ → Moves) (items : List FlowOp) (mark : ℕ) → before_mark switch items mark ≤ items_length switch items
 unfolding before_mark items_length
-mark_within [] mark = omega arith
-mark_within (item ∷ rest) mark = by_mark (is_mark item mark) (item_length item) (before_mark rest mark) (items_length rest) (mark_within rest mark)
+mark_within switch [] mark = omega arith
+mark_within switch (item ∷ rest) mark = by_mark (is_mark item mark) (item_length switch item) (before_mark switch rest mark) (items_length switch rest) (mark_within switch rest mark)

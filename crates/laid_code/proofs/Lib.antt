@@ -3,7 +3,9 @@ pub mod Lengths
 pub mod Items
 pub mod Marks
 pub mod Laid
+pub mod Plans
 pub mod Rows
 pub mod Blocks
 pub mod Cut
 pub mod Carried
+pub mod Table

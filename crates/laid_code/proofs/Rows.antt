@@ -1,104 +1,95 @@
 -- What tiles need of the instructions that translation is built for.
-use Rattle.std.proofs.Common.{◌≡◌, ℕ, ◌≤◌, Bool, true, false, cond, eqb, List, [], ◌∷◌, length, map, refl, sym, ap, arith}
+use Rattle.std.proofs.Common.{◌≡◌, ℕ, ◌≤◌, Bool, true, false, [], ◌∷◌, length, Some, refl, ap, ◌∙◌, subst, arith}
 use Rattle.ppc_isa.specs.Legal.{IsLegal}
 use Rattle.ppc_isa.specs.Map.{IsMap}
 use Rattle.ppc_isa.specs.declared.instr.Instr.{Instr}
-use Rattle.ppc_isa.specs.declared.instr.Instr.TheVariants.{Immediate, Arithmetic, Branch, SystemCall}
-use Rattle.ppc_isa.specs.declared.instr.ImmediateOp.TheVariants.{Addi}
-use Rattle.ppc_isa.specs.declared.instr.ArithmeticOp.TheVariants.{Add}
-use Rattle.ia_codec.specs.declared.op.Op.{Op}
-use Rattle.runs.specs.Machine.{Goes}
+use Rattle.runs.specs.Machine.{Outcome, Goes, Asks, Ends}
 use Rattle.machines.specs.Memory.{Rights}
-use Rattle.machines.specs.Guest.{Guest, behind}
-use Rattle.base_alu.specs.Tile.{tile as alu_tile}
+use Rattle.machines.specs.Guest.{Guest, behind, acts, effect_of}
+use Rattle.row_laws.specs.FlowWords.{is_flow}
 use Rattle.base_flow.specs.Tile.{tile as flow_tile}
-use Rattle.tiles.specs.Relocated.{op_at}
-use Rattle.tiles.specs.Row.{window_of, DoWindow}
-use Rattle.tiles.specs.Flow.{FlowDoesRow}
-use Rattle.tiles.proofs.Rows.{tiles_do_rows}
-use Rattle.tiles.proofs.FlowRows.{flow_tiles_do_rows}
-use Rattle.simulation.specs.Windows.{rows_of, IsLinked}
-use Rattle.code_layout.specs.Built.{IsBuilt}
-use Rattle.code_layout.specs.Code.{no_registers, is_flow}
+use Rattle.symbolic_tiles.specs.Row.{window_of, DoWindow}
+use Rattle.symbolic_tiles.specs.Row.{WritesHeld}
+use Rattle.symbolic_tiles.specs.Flow.{FlowDoesWord}
+use Rattle.symbolic_tiles.specs.Straight.{IsStraight}
+use Rattle.code_layout.proofs.StraightTiles.{tiles_do_rows, tiles_are_short}
+use Rattle.code_layout.proofs.BuiltWords.{straight_word, has_tile}
+use Rattle.base_flow.proofs.Tiles.{flow_tiles_do_rows, flow_tiles_are_marked}
+use Rattle.symbolic_tiles.proofs.Straight.{rows_are_straight, accesses_are_inside}
+use Rattle.simulation.specs.Windows.{rows_of, IsQuiet}
+use Rattle.simulation.specs.Setting.{Setting, IsWordAt}
+use Rattle.simulation.specs.Plan.{IsTile, LeadsTo}
+use Rattle.code_layout.specs.Places.{no_registers}
+use Rattle.code_layout.specs.Code.{word_ops, ops_at}
 use Rattle.laid_code.specs.Items.{AreMarked}
-use Rattle.laid_code.proofs.Marks.{marked_sc, few_sc}
+use Rattle.laid_code.proofs.Marks.{as_marked}
 
 pub is_map : IsMap no_registers
 is_map = record { ebx = tt; esi = tt; edi = tt; ebx_esi = tt; ebx_edi = tt; esi_edi = tt }
 
--- an instruction that goes on to the next word, with a tile of ops
+-- an instruction that is no flow word, with a tile of ops
 pub record IsStraightWord (i : Instr) : Type 0 where
   pub straight : is_flow i ≡ false
-  pub few : length (alu_tile i no_registers) ≤ 3
-  pub does : (area : ℕ) → DoWindow (window_of i) no_registers area (map (op_at area) (alu_tile i no_registers))
-  pub linked : (rights : Rights) → IsLinked rights i []
-  pub rows : (rights : Rights) (g : Guest) → (window_of i).outcome rights g ≡ rows_of rights (i ∷ []) g
-  pub loads : (g : Guest) → (window_of i).loads g ≡ []
-  pub stores : (g : Guest) → (window_of i).stores g ≡ []
-  pub next : (rights : Rights) (g g' : Guest) → rows_of rights (i ∷ []) g ≡ Goes g' → g'.next ≡ behind g.next
+  pub few : length (word_ops i no_registers) ≤ 128
+  pub does : (area : ℕ) → DoWindow (window_of i) no_registers area (ops_at area (word_ops i no_registers))
 
 -- a flow word, with a tile of items
 pub record IsFlowingWord (i : Instr) : Type 0 where
   pub flow : is_flow i ≡ true
   pub few : (at : ℕ) → length (flow_tile i at no_registers) ≤ 100
   pub marked : (at : ℕ) → AreMarked (flow_tile i at no_registers)
-  pub does : FlowDoesRow i no_registers (λ at. flow_tile i at no_registers)
+  pub does : FlowDoesWord (Some i) no_registers (λ at. flow_tile i at no_registers)
 
-goes_same : (g g' : Guest) → Goes g ≡ Goes g' → g ≡ g'
-goes_same g g' e = cc
+-- the row of an instruction as the only one of its window
+one_row : (o : Outcome Guest) (rights : Rights) (i : Instr) (g : Guest) → acts rights i (effect_of i g) g ≡ o → o ≡ rows_of rights (i ∷ []) g
+one_row (Goes g') rights i g e = rw e refl
+one_row (Asks call next) rights i g e = rw e refl
+one_row (Ends how) rights i g e = rw e refl
 
-few_ops : (b : Bool) (x y : List Op) → length x ≤ 3 → length y ≤ 3 → length (cond b x y) ≤ 3
-few_ops true x y p q = p
-few_ops false x y p q = q
+quiet_if_straight : (next : ℕ) (o : Outcome Guest) → IsStraight next o → IsQuiet o
+quiet_if_straight next (Goes g) h = tt
+quiet_if_straight next (Asks call after) h = h
+quiet_if_straight next (Ends e) h = h
 
-pub addi_straight : (d a imm : ℕ) → IsLegal (Immediate Addi d a imm) → IsStraightWord (Immediate Addi d a imm)
-addi_straight d a imm legal = record {
-  straight = refl;
-  few = few_ops (eqb a 0) _ _ (omega arith) (omega arith);
-  does = λ area. tiles_do_rows (Immediate Addi d a imm) legal (omega (arith, legal.fit.1.0), omega (arith, legal.fit.1.1.0)) no_registers area is_map;
-  linked = λ rights g. tt;
-  rows = λ rights g. refl;
-  loads = λ g. refl;
-  stores = λ g. refl;
-  next = λ rights g g' e. sym (ap (λ (x : Guest). x.next) (goes_same _ g' e));
-}
+module _ (s : Setting) (writes_held : WritesHeld s.guest) (i : Instr) (word : IsStraightWord i) where
+  row_is : (g : Guest) → (window_of i).outcome s.guest g ≡ rows_of s.guest (i ∷ []) g
+  row_is g = one_row (acts s.guest i (effect_of i g) g) s.guest i g refl
 
-pub add_straight : (d a b : ℕ) → IsLegal (Arithmetic Add d a b false) → IsStraightWord (Arithmetic Add d a b false)
-add_straight d a b legal = record {
-  straight = refl;
-  few = omega arith;
-  does = λ area. tiles_do_rows (Arithmetic Add d a b false) legal (omega (arith, legal.fit.1.0), omega (arith, legal.fit.1.1.0), omega (arith, legal.fit.1.1.1.0)) no_registers area is_map;
-  linked = λ rights g. tt;
-  rows = λ rights g. refl;
-  loads = λ g. refl;
-  stores = λ g. refl;
-  next = λ rights g g' e. sym (ap (λ (x : Guest). x.next) (goes_same _ g' e));
-}
+  -- its tile does the word at a guest address
+  pub straight_tile : (w : ℕ) → IsWordAt s w (Some i) → IsTile s no_registers w (i ∷ []) (window_of i) (word_ops i no_registers)
+  straight_tile w fetched = record {
+    some = omega arith;
+    few = word.few;
+    fetched = (fetched, (λ g. quiet_if_straight (behind g.next) (acts s.guest i (effect_of i g) g) (rows_are_straight i s.guest g word.straight)), tt);
+    rows = row_is;
+    inside = record {
+      loads = λ g g' a e c. (accesses_are_inside i s.guest g g' word.straight writes_held e).loads a c;
+      stores = λ g g' a e c. (accesses_are_inside i s.guest g g' word.straight writes_held e).stores a c;
+    };
+    does = word.does s.area;
+  }
 
-pub branch_flows : (target : ℕ) (absolute : Bool) → IsLegal (Branch target absolute false) → IsFlowingWord (Branch target absolute false)
-branch_flows target absolute legal = record {
-  flow = refl;
-  few = λ at. omega arith;
-  marked = λ at. tt;
-  does = flow_tiles_do_rows (Branch target absolute false) no_registers (omega (arith, legal.fit.1.0));
-}
+  -- and leads to the next word
+  pub straight_leads : (w : ℕ) → LeadsTo s w (i ∷ []) (λ g. behind w)
+  straight_leads w g g' at e = subst (IsStraight (behind g.next)) (row_is g ∙ e) (rows_are_straight i s.guest g word.straight) ∙ ap behind at
 
-pub call_flows : IsFlowingWord SystemCall
-call_flows = record {
-  flow = refl;
-  few = λ at. omega (arith, few_sc (behind at));
-  marked = λ at. marked_sc (behind at);
-  does = flow_tiles_do_rows SystemCall no_registers (refl, refl, refl);
-}
-
--- each built instruction is the one or the other
+-- each instruction is the one or the other
 pub data Kind (i : Instr) : Type 0 where
   straight : IsStraightWord i → Kind i
   flowing : IsFlowingWord i → Kind i
 
-pub kind_of : (i : Instr) → IsBuilt i → IsLegal i → Kind i
-kind_of (Immediate Addi d a imm) built legal = straight (addi_straight d a imm legal)
-kind_of (Arithmetic Add d a b false) built legal = straight (add_straight d a b legal)
-kind_of (Branch target absolute false) built legal = flowing (branch_flows target absolute legal)
-kind_of SystemCall built legal = flowing call_flows
-kind_of _ built legal = absurd built
+pub kind_of : (i : Instr) → IsLegal i → Kind i
+kind_of i legal = by_flow (is_flow i) refl
+  where
+    by_flow : (b : Bool) → is_flow i ≡ b → Kind i
+    by_flow false e = straight (record {
+      straight = e;
+      few = (tiles_are_short i no_registers legal (straight_word i e)).0;
+      does = λ area. tiles_do_rows i legal (straight_word i e) no_registers area is_map;
+    })
+    by_flow true e = flowing (record {
+      flow = e;
+      few = λ at. let m = flow_tiles_are_marked i no_registers at in omega (arith, m.1);
+      marked = λ at. as_marked (flow_tile i at no_registers) (flow_tiles_are_marked i no_registers at).0;
+      does = flow_tiles_do_rows i no_registers legal is_map (has_tile i e);
+    })

@@ -1,5 +1,7 @@
 -- The setting of a program and of the program that was written for it. This project's own.
-use Rattle.std.specs.Prelude.{◌≡◌, ℕ, ◌+◌, ◌^◌, ◌<◌, true, List, length, slice_index, Option}
+use Rattle.std.specs.Prelude.{◌≡◌, ℕ, ◌+◌, ◌*◌, ◌^◌, ◌<◌, ◌≤◌, true, false, List, length, get_or, Option}
+use Rattle.std.specs.List.{flat_map}
+use Rattle.byteorder.specs.Endian.{little_bytes}
 use Rattle.ppc_isa.specs.declared.instr.Instr.{Instr}
 use Rattle.space.specs.declared.program.Program.{Program}
 use Rattle.machines.specs.Memory.{rights_of, code_of, first_bytes}
@@ -8,16 +10,20 @@ use Rattle.machines.specs.Guest.{guest_machine}
 use Rattle.machines.specs.Agreement.{without, narrow_machine}
 pub use Rattle.code_words.specs.Words.{HasWords}
 use Rattle.simulation.specs.Setting.{Setting}
-use Rattle.code_layout.specs.Built.{IsBuiltWord}
-use Rattle.code_layout.specs.Code.{no_registers, entry_of}
+pub use Rattle.code_layout.specs.Decoded.{AreDecodedAs}
+use Rattle.code_layout.specs.Places.{no_registers, entry_of}
 use Rattle.code_layout.specs.Layout.{IsCodeFor}
+
+-- where the table begins: behind the home page
+abbrev pub table_start : ℕ → ℕ
+table_start area = area + 0x1000
 
 -- where the code begins, with `hold`: behind the home page and the table
 abbrev pub code_start : ℕ → ℕ
 code_start area = area + 0x81000
 
 -- The guest runs P. The host runs Q, where no byte of its code is read as data. Every block begins with no GPR in a
--- register and all locations live; edges lead where the table says.
+-- register and all locations live; edges and the indirect sequence lead where the table says.
 abbrev pub setting_of : (ℕ → Option Instr) → (List ℕ → Option Fetched) → Program → Program → ℕ → ℕ → List ℕ → Setting
 setting_of words ops P Q first area table = record {
   guest = rights_of P;
@@ -29,16 +35,23 @@ setting_of words ops P Q first area table = record {
   hold = code_start area;
   entry_map = λ w. no_registers;
   target = entry_of first table (code_start area);
+  door = entry_of first table (code_start area);
+  first = first;
+  count = length table;
+  table = table_start area;
   live = λ w x. true;
 }
 
--- translation is built for each of the words
-abbrev pub AreBuilt : List ℕ → Type 0
-AreBuilt words = (k : ℕ) → k < length words → IsBuiltWord (slice_index words k)
-
 -- the code of Q is that of these words, by this table, and lies below 2^32
-pub record HasCodeFor (Q : Program) (first entry : ℕ) (words : List ℕ) (area : ℕ) (table : List ℕ) : Type 0 where
+pub record HasCodeFor (Q : Program) (first entry : ℕ) (words : List (Option Instr)) (area : ℕ) (table : List ℕ) : Type 0 where
   pub at : (code_of Q).at ≡ code_start area
   pub low : code_start area + length (code_of Q).bytes < 2 ^ 32
   pub count : length table ≡ length words
   pub code : IsCodeFor first entry words area table (code_of Q).bytes
+
+-- these words stand in the setting's table, which can be read and not written
+pub record HasTableOf (s : Setting) (entries : List ℕ) : Type 0 where
+  pub low : s.table + 4 * length entries ≤ 2 ^ 32
+  pub held : (i : ℕ) → i < 4 * length entries → s.host.held (s.table + i) ≡ true
+  pub unwritable : (i : ℕ) → i < 4 * length entries → s.host.writable (s.table + i) ≡ false
+  pub bytes : (i : ℕ) → i < 4 * length entries → s.image (s.table + i) ≡ get_or (flat_map (little_bytes 4) entries) i 0

@@ -1,11 +1,21 @@
--- The marks and edges of items that stand in the code. This project's own.
-use Rattle.std.specs.Prelude.{◌≡◌, ℕ, ◌+◌, ◌⊎◌, Bool, true, false, ◌||◌, List, [], ◌∷◌}
+-- The marks, edges and indirect sequences of items that stand in the code. This project's own.
+use Rattle.std.specs.Prelude.{◌≡◌, ℕ, ◌+◌, ◌*◌, ◌^◌, ◌<◌, ◌≤◌, ◌⊎◌, Bool, true, false, ◌||◌, List, [], ◌∷◌, length}
 use Rattle.ia_codec.specs.Spelling.{condition_number}
 use Rattle.ia_codec.specs.declared.op.Condition.{Condition}
-use Rattle.base_flow.specs.declared.flow_op.FlowOp.{FlowOp}
-use Rattle.base_flow.specs.declared.flow_op.FlowOp.TheVariants.{Jump, Mark, Edge}
-use Rattle.code_layout.specs.Code.{item_length, is_mark, before_mark}
-use Rattle.tiles.specs.Standing.{EdgeCode}
+use Rattle.symbolic_tiles.specs.declared.flow_op.FlowOp.{FlowOp}
+use Rattle.symbolic_tiles.specs.declared.flow_op.FlowOp.TheVariants.{Jump, Mark, Edge, Leap}
+use Rattle.ppc_isa.specs.declared.map.Map.{Map}
+use Rattle.ia_codec.specs.declared.op.Op.{Op}
+use Rattle.code_layout.specs.Places.{Moves, Places}
+use Rattle.code_layout.specs.Code.{IsPlaceable, item_length, is_mark, before_mark}
+use Rattle.simulation.specs.Setting.{Setting}
+use Rattle.simulation.specs.Plan.{IsMove}
+use Rattle.symbolic_tiles.specs.Standing.{EdgeCode}
+
+-- each op is in the profile over each home page
+abbrev pub ArePlaceable : List Op → Type 0
+ArePlaceable [] = Unit {0}
+ArePlaceable (op ∷ ops) = IsPlaceable op × ArePlaceable ops
 
 -- a jump's code: the number of a condition, or 16, which is always
 abbrev pub IsJumpCode : ℕ → Type 0
@@ -24,12 +34,41 @@ AreMarked (Mark mark ∷ items) = (has_mark items mark ≡ false) × AreMarked i
 AreMarked (_ ∷ items) = AreMarked items
 
 -- where the marks of items stand that begin at an address
-abbrev pub labels_of : ℕ → List FlowOp → ℕ → ℕ
-labels_of here items mark = here + before_mark items mark
+abbrev pub labels_of : (ℕ → Moves) → ℕ → List FlowOp → ℕ → ℕ
+labels_of switch here items mark = here + before_mark switch items mark
 
 -- where the code of each of their edges begins
-abbrev pub edges_of : ℕ → List FlowOp → List EdgeCode
-edges_of here [] = []
-edges_of here (Edge target ∷ items) = record { target = target; at = here } ∷ edges_of (here + item_length (Edge target)) items
-edges_of here (Mark mark ∷ items) = edges_of here items
-edges_of here (item ∷ items) = edges_of (here + item_length item) items
+abbrev pub edges_of : (ℕ → Moves) → ℕ → List FlowOp → List EdgeCode
+edges_of switch here [] = []
+edges_of switch here (Edge target ∷ items) = record { target = target; at = here } ∷ edges_of switch (here + item_length switch (Edge target)) items
+edges_of switch here (Mark mark ∷ items) = edges_of switch here items
+edges_of switch here (item ∷ items) = edges_of switch (here + item_length switch item) items
+
+-- and where the indirect sequences stand
+abbrev pub leaps_of : (ℕ → Moves) → ℕ → List FlowOp → List ℕ
+leaps_of switch here [] = []
+leaps_of switch here (Leap ∷ items) = here ∷ leaps_of switch (here + item_length switch Leap) items
+leaps_of switch here (Mark mark ∷ items) = leaps_of switch here items
+leaps_of switch here (item ∷ items) = leaps_of switch (here + item_length switch item) items
+
+-- where the parts of a setting's file stand; edges lead to the blocks by these moves
+abbrev pub places_of : Setting → (ℕ → Moves) → Places
+places_of s switch = record { area = s.area; hold = s.hold; table = s.table; first = s.first; count = s.count; targets = s.target; switch = switch }
+
+-- moves that lead from a map to the map under which the block at a guest address begins
+abbrev pub IsSwitch : Setting → ℕ → Map → Moves → Type 0
+IsSwitch s next map [] = map ≡ s.entry_map next
+IsSwitch s next map ((to, ops) ∷ moves) = IsMove s next map to ops × ArePlaceable ops × IsSwitch s next to moves
+
+-- from a map on, the switch to each guest address
+abbrev pub AreSwitches : Setting → Map → (ℕ → Moves) → Type 0
+AreSwitches s map switch = (next : ℕ) → (length (switch next) ≤ 6) × IsSwitch s next map (switch next)
+
+-- the parts of a setting's file stand below 2^32
+pub record ArePlaced (s : Setting) : Type 0 where
+  pub area : s.area + 4096 ≤ 2 ^ 32
+  pub hold : s.hold < 2 ^ 32
+  pub table : s.table < 2 ^ 32
+  pub first : s.first < 2 ^ 32
+  pub count : 4 * s.count < 2 ^ 32
+  pub targets : (address : ℕ) → s.target address < 2 ^ 32

@@ -1,20 +1,23 @@
 -- What holds of code that stands at addresses.
-use Rattle.std.specs.Prelude.{◌≡◌, ℕ, ◌+◌, ◌-◌, ◌%◌, ◌^◌, ◌<◌, ◌≤◌, ◌⊎◌, List, [], length, Option, All, Contains}
+use Rattle.std.specs.Prelude.{◌≡◌, ℕ, ◌+◌, ◌-◌, ◌%◌, ◌^◌, ◌<◌, ◌⊎◌, List, length, Option, All, Contains}
 use Rattle.ia_codec.specs.Spelling.{spelling, IsInProfile}
 use Rattle.ia_codec.specs.declared.op.Op.{Op}
 use Rattle.ia_codec.specs.declared.op.Op.TheVariants.{Jmp}
-use Rattle.base_flow.specs.declared.flow_op.FlowOp.{FlowOp}
+use Rattle.symbolic_tiles.specs.declared.flow_op.FlowOp.{FlowOp}
 use Rattle.machines.specs.Memory.{Code}
+use Rattle.ppc_isa.specs.declared.map.Map.{Map}
 use Rattle.ppc_isa.specs.declared.instr.Instr.{Instr}
 use Rattle.space.specs.declared.program.Program.{Program}
 use Rattle.machines.specs.Readings.{Fetched, ReadsWords, ReadsOps}
-use Rattle.tiles.specs.Standing.{StandsAt, EdgeCode, ItemsAt}
-use Rattle.simulation.specs.Setting.{Setting, IsOffCode, JumpsTo}
-use Rattle.simulation.specs.Plan.{Begins}
+use Rattle.symbolic_tiles.specs.Standing.{StandsAt, EdgeCode, ItemsAt}
+use Rattle.simulation.specs.Setting.{Setting, HasTable, IsOffCode, JumpsTo}
+use Rattle.simulation.specs.Plan.{PlanStep, EdgeAt, LeapAt, BlockAt, Begins}
+use Rattle.code_layout.specs.Places.{Moves}
 use Rattle.code_layout.specs.Code.{IsLaid, items_bytes}
 use Rattle.laid_code.specs.Bytes.{HasBytes, RunsCode}
-use Rattle.laid_code.specs.Instance.{code_start, setting_of, HasWords, AreBuilt, HasCodeFor}
-use Rattle.laid_code.specs.Items.{AreMarked, labels_of, edges_of}
+use Rattle.laid_code.specs.Instance.{code_start, setting_of, HasWords, AreDecodedAs, HasCodeFor, HasTableOf}
+use Rattle.laid_code.specs.Items.{AreMarked, labels_of, edges_of, leaps_of, places_of, AreSwitches, ArePlaced}
+use Rattle.laid_code.specs.Plans.{plan_items, last_map, AreRight}
 
 -- Where an op's spelling stands, the op stands.
 abbrev pub SpellingsStand : Type 0
@@ -28,13 +31,22 @@ JumpsLead =
     (s : Setting) (code : Code) (reading : List ℕ → Option Fetched) (here target : ℕ) →
     RunsCode s code reading → target < 2 ^ 32 → HasBytes code here (spelling (Jmp ((target + (2 ^ 32 - (here + 5))) % 2 ^ 32))) → JumpsTo s here target
 
--- Where the bytes of items stand over the home page, the items stand, with their marks and edges; an edge leads to its target.
+-- Where the bytes of items stand over the home page, the items stand, with their marks, edges and indirect sequences.
 abbrev pub ItemsStand : Type 0
 ItemsStand =
-    (s : Setting) (code : Code) (reading : List ℕ → Option Fetched) (targets : ℕ → ℕ) (here : ℕ) (items : List FlowOp) →
-    RunsCode s code reading → s.area + 4096 ≤ 2 ^ 32 → ((address : ℕ) → targets address < 2 ^ 32) → All IsLaid items → AreMarked items → HasBytes code here (items_bytes s.area targets here items) →
-    ItemsAt s.host s.area s.host_step (labels_of here items) (edges_of here items) [] here items
-    × ((e : EdgeCode) → Contains (edges_of here items) e → JumpsTo s e.at (targets e.target))
+    (s : Setting) (map : Map) (switch : ℕ → Moves) (code : Code) (reading : List ℕ → Option Fetched) (here : ℕ) (items : List FlowOp) →
+    RunsCode s code reading → ArePlaced s → AreSwitches s map switch → All IsLaid items → AreMarked items → HasBytes code here (items_bytes (places_of s switch) here items) →
+    ItemsAt s.host s.area s.host_step (labels_of switch here items) (edges_of switch here items) (leaps_of switch here items) here items
+    × ((e : EdgeCode) → Contains (edges_of switch here items) e → EdgeAt s map e.target e.at)
+    × ((a : ℕ) → Contains (leaps_of switch here items) a → LeapAt s a)
+
+-- Where the bytes of a plan's items stand whose steps are right, the block stands; the switches are those from the map under
+-- which the plan ends.
+abbrev pub PlansStand : Type 0
+PlansStand =
+    (s : Setting) (switch : ℕ → Moves) (code : Code) (reading : List ℕ → Option Fetched) (map : Map) (w here : ℕ) (steps : List PlanStep) →
+    RunsCode s code reading → ArePlaced s → AreSwitches s (last_map map steps) switch → AreRight s map w steps → HasBytes code here (items_bytes (places_of s switch) here (plan_items w steps)) →
+    BlockAt s map w here steps
 
 -- At an address the block of a code word begins; or no code word stands there, and edges to it lead to `hold`.
 abbrev pub IsBlockOrOff : Setting → ℕ → Type 0
@@ -43,11 +55,17 @@ IsBlockOrOff s w = Begins s w ⊎ (IsOffCode s w × (s.target w ≡ s.hold))
 -- The code of the written program carries the block of each code word of P.
 abbrev pub BlocksStand : Type 0
 BlocksStand =
-    (reading : ℕ → Option Instr) (ops : List ℕ → Option Fetched) (P Q : Program) (first entry : ℕ) (words : List ℕ) (area : ℕ) (table : List ℕ) →
-    ReadsWords reading → ReadsOps ops → HasWords P first words → AreBuilt words → HasCodeFor Q first entry words area table → (w : ℕ) → IsBlockOrOff (setting_of reading ops P Q first area table) w
+    (reading : ℕ → Option Instr) (ops : List ℕ → Option Fetched) (P Q : Program) (first entry : ℕ) (words : List ℕ) (decoded : List (Option Instr)) (area : ℕ) (table : List ℕ) →
+    ReadsWords reading → ReadsOps ops → HasWords P first words → AreDecodedAs words decoded → HasCodeFor Q first entry decoded area table → (w : ℕ) → IsBlockOrOff (setting_of reading ops P Q first area table) w
 
 -- `hold` is a jump to itself.
 abbrev pub HoldStands : Type 0
 HoldStands =
-    (reading : ℕ → Option Instr) (ops : List ℕ → Option Fetched) (P Q : Program) (first entry : ℕ) (words : List ℕ) (area : ℕ) (table : List ℕ) →
-    ReadsOps ops → HasCodeFor Q first entry words area table → JumpsTo (setting_of reading ops P Q first area table) (code_start area) (code_start area)
+    (reading : ℕ → Option Instr) (ops : List ℕ → Option Fetched) (P Q : Program) (first entry : ℕ) (decoded : List (Option Instr)) (area : ℕ) (table : List ℕ) →
+    ReadsOps ops → HasCodeFor Q first entry decoded area table → JumpsTo (setting_of reading ops P Q first area table) (code_start area) (code_start area)
+
+-- The table leads to the block of each code word, and elsewhere nothing but to `hold`.
+abbrev pub TablesStand : Type 0
+TablesStand =
+    (reading : ℕ → Option Instr) (ops : List ℕ → Option Fetched) (P Q : Program) (first entry : ℕ) (words : List ℕ) (decoded : List (Option Instr)) (area : ℕ) (table : List ℕ) →
+    ReadsOps ops → HasWords P first words → AreDecodedAs words decoded → HasCodeFor Q first entry decoded area table → HasTableOf (setting_of reading ops P Q first area table) table → HasTable (setting_of reading ops P Q first area table)

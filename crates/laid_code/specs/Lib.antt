@@ -1,4 +1,5 @@
 pub mod Bytes
 pub mod Items
+pub mod Plans
 pub mod Instance
 pub mod Laws

@@ -1,6 +1,6 @@
 //! What the bytes of the code carry. Each law is the contract of a function that does nothing.
 
-ghost use Rattle.laid_code.specs.Laws.{SpellingsStand, JumpsLead, ItemsStand, BlocksStand, HoldStands};
+ghost use Rattle.laid_code.specs.Laws.{SpellingsStand, JumpsLead, ItemsStand, PlansStand, BlocksStand, HoldStands, TablesStand};
 
 /// Where the spelling of an op stands in the code, the op stands.
 pub fn spellings_stand()
@@ -12,9 +12,16 @@ pub fn jumps_lead()
     ensures { JumpsLead }
 {}
 
-/// Where the bytes of items stand the items stand, and their edges lead to their targets.
+/// Where the bytes of items stand the items stand, with the switches of their edges and their indirect
+/// sequences.
 pub fn items_stand()
     ensures { ItemsStand }
+{}
+
+/// Where the bytes of a plan's items stand, the block stands: with moves, tiles of one or more words, a
+/// tile that ends by its condition, or a flow word's tile, and with the switches of its edges.
+pub fn plans_stand()
+    ensures { PlansStand }
 {}
 
 /// At each code word of a program the block of its plan stands in the written code, and edges to other
@@ -26,4 +33,9 @@ pub fn blocks_stand()
 /// `hold` is a jump to itself.
 pub fn hold_stands()
     ensures { HoldStands }
+{}
+
+/// The table of a written file leads to the block of each code word.
+pub fn tables_stand()
+    ensures { TablesStand }
 {}

@@ -3,4 +3,6 @@
 
 mod laws;
 
-pub use laws::{blocks_stand, hold_stands, items_stand, jumps_lead, spellings_stand};
+pub use laws::{
+    blocks_stand, hold_stands, items_stand, jumps_lead, plans_stand, spellings_stand, tables_stand,
+};

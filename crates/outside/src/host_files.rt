@@ -2,10 +2,11 @@
 ghost use Rattle.std.specs.Prelude.{◌≡◌, ◌≤◌, false, None, length, IfOk, List, ℕ};
 
 use crate::faults::{enter, prepare};
+use crate::replacing::{fault_of, replace_file};
 use crate::{FileFault, Files};
 use std::alloc::Global;
-use std::io::{ErrorKind, Read};
-use std::{fs, io, rt};
+use std::io::Read;
+use std::{fs, rt};
 use word_kit::NoMemory;
 
 const PIECE: usize = 4096;
@@ -62,7 +63,7 @@ impl<'a, R: rt::Files> Files for HostFiles<'a, R> {
 
     fn replace(&mut self, name: &str, bytes: &[u8]) -> Result<(), FileFault> {
         let key = prepare(self.alloc, &mut self.failed_replaces, name).map_err(FileFault::Memory)?;
-        match fs::write(self.rt, name, bytes).map_err(fault_of) {
+        match replace_file(self.alloc, self.rt, name, bytes) {
             Err(FileFault::Failed) => {
                 enter(&mut self.failed_replaces, key);
                 Err(FileFault::Failed)
@@ -101,12 +102,4 @@ fn read_first<R: rt::Files>(
         }
     }
     Ok(bytes)
-}
-
-// Want of memory is no fault of the file.
-fn fault_of(error: io::Error) -> FileFault {
-    match error.kind() {
-        ErrorKind::OutOfMemory => FileFault::Memory(NoMemory),
-        _ => FileFault::Failed,
-    }
 }

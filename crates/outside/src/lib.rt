@@ -12,6 +12,7 @@ mod host_streams;
 mod memory_files;
 mod memory_streams;
 mod numerals;
+mod replacing;
 mod streams;
 #[cfg(test)]
 mod tests;

@@ -4,3 +4,4 @@ pub mod Place
 pub mod Spelled
 pub mod Words
 pub mod Relocated
+pub mod Moves

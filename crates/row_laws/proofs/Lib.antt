@@ -1,11 +1,11 @@
-mod Instructions
-mod Digits
-mod Bits
-mod Fields
-mod Lists
-mod Chosen
-mod Shapes
-mod Kept
+pub mod Instructions
+pub mod Digits
+pub mod Bits
+pub mod Fields
+pub mod Lists
+pub mod Chosen
+pub mod Shapes
+pub mod Kept
 pub mod Changes
 mod Numbers
 mod Accesses

@@ -1,5 +1,5 @@
 -- The tiles of flow words: they go on, call, or end.
-use Rattle.std.proofs.Common.{◌≡◌, ◌≢◌, ℕ, suc, ◌<◌, ◌≤◌, ◌⊎◌, inl, inr, List, [], length, Option, None, Contains, refl, sym, ap, ◌∙◌, subst, arith}
+use Rattle.std.proofs.Common.{◌≡◌, ◌≢◌, ℕ, suc, ◌+◌, ◌*◌, ◌<◌, ◌≤◌, ◌⊎◌, inl, inr, List, length, Option, None, Contains, refl, sym, ap, ◌∙◌, subst, arith}
 use Rattle.space.specs.declared.call.End.{End}
 use Rattle.space.specs.declared.call.End.TheVariants as ends
 use Rattle.space.specs.declared.call.End.TheVariants.{Outside}
@@ -7,19 +7,23 @@ use Rattle.ppc_isa.specs.declared.map.Map.{Map}
 use Rattle.ppc_isa.specs.declared.instr.Instr.{Instr}
 use Rattle.ppc_isa.specs.Map.{IsMap}
 use Rattle.reg_map.specs.Home.{location_range}
-use Rattle.base_flow.specs.declared.flow_op.FlowOp.{FlowOp}
+use Rattle.symbolic_tiles.specs.declared.flow_op.FlowOp.{FlowOp}
 use Rattle.runs.specs.Machine.{Outcome, Goes, Asks, Ends, Anywhere}
 use Rattle.runs.specs.Simulation.{Walks, stays, walks, onward, called, over, lost}
 use Rattle.machines.specs.Guest.{Guest, executes}
 use Rattle.machines.specs.Host.{Core, Host}
-use Rattle.tiles.specs.Flow.{Exit, Leaves, Leaps, Stops, Calls, Falls, IsBefore, IsBehind, FitsGoing, Fits, flow}
-use Rattle.tiles.specs.Standing.{EdgeCode, Reaches}
-use Rattle.tiles.proofs.Walked.{flows_are_walked}
+use Rattle.symbolic_tiles.specs.Flow.{leap_target, Exit, Leaves, Leaps, Stops, Calls, Falls, IsBefore, IsBehind, FitsGoing, Fits, flow}
+use Rattle.symbolic_tiles.specs.Standing.{EdgeCode, Reaches}
+use Rattle.symbolic_tiles.proofs.Walked.{flows_are_walked}
+use Rattle.code_layout.specs.Places.{no_registers}
 use Rattle.simulation.specs.Setting.{Setting, Stood, Alike, AreAlike, KeepsUnwrittenBy}
-use Rattle.simulation.specs.Plan.{EdgeAt, FlowAt}
+use Rattle.simulation.specs.Plan.{EdgeAt, SwitchAt, LeapAt, DoorAt, FlowAt}
 use Rattle.simulation.specs.Relation.{Meets, leaving, IsTranslation}
 use Rattle.simulation.proofs.Full.{full, full_alike, full_represents, full_in_range, IsUnwritten, walk_keeps}
-use Rattle.simulation.proofs.Switches.{Steps}
+use Rattle.simulation.proofs.Switches.{Steps, enters}
+use Rattle.simulation.proofs.Leaps.{Leapt}
+use Rattle.simulation.proofs.Leaps.{leaps as leaps_to}
+use Rattle.runs.proofs.Walking.{join_walks}
 
 is_outside : (e : End) → (e ≡ Outside) ⊎ (e ≢ Outside)
 is_outside ends.Running = inr (λ x. cc)
@@ -31,17 +35,19 @@ is_outside ends.Dry = inr (λ x. cc)
 is_outside ends.DivideFault = inr (λ x. cc)
 
 module _ (s : Setting) where
-  -- behind a flow tile: on an edge
+  -- behind a flow tile: on an edge or, behind the indirect sequence, at the door
   pub record Lands (p most : ℕ) (g : Guest) (h : Host) : Type 0 where
     pub j : ℕ
+    pub p' : ℕ
     pub h' : Host
-    pub few : j ≤ most
+    pub few : j ≤ most + 6
+    pub slow : p + 1 ≤ 64 * j + p'
     pub host_walks : Walks Anywhere s.host_step j h h'
-    pub meets : Meets s (suc p) 0 g h'
+    pub meets : Meets s p' 0 g h'
 
-module _ (s : Setting) (t : IsTranslation s) (map : Map) (is_map : IsMap map) (labels : ℕ → ℕ) (edges : List EdgeCode) (edges_stand : (e : EdgeCode) → Contains edges e → EdgeAt s map e.target e.at) where
+module _ (s : Setting) (t : IsTranslation s) (map : Map) (is_map : IsMap map) (labels : ℕ → ℕ) (edges : List EdgeCode) (leaps : List ℕ) (edges_stand : (e : EdgeCode) → Contains edges e → EdgeAt s map e.target e.at) (leaps_stand : (at : ℕ) → Contains leaps at → (map ≡ no_registers) × LeapAt s at) where
   abbrev Reached : ℕ → Exit → Host → Type 0
-  Reached most exit h = Reaches s.host s.area s.host_step labels edges [] most exit h
+  Reached most exit h = Reaches s.host s.area s.host_step labels edges leaps most exit h
 
   -- g' is the guest, and the exit is that of the guest that is shown
   lands : (p most : ℕ) (before : Core) (g' shown : Guest) (exit : Exit) (h : Host) → p < 64 → IsUnwritten s h.core → Alike s g' shown → FitsGoing map s.area s.guest before shown exit → Reached most exit h → Lands s p most g' h
@@ -58,8 +64,42 @@ module _ (s : Setting) (t : IsTranslation s) (map : Map) (is_map : IsMap map) (l
         unwritten = walk_keeps s t.keeps r.0 h r.1 r.3 unwritten;
       } in
       let edge : EdgeAt s map g'.next r.1.eip = subst (λ w. EdgeAt s map w r.1.eip) (fits.0 ∙ alike.next) (edges_stand _ r.4) in
-      record { j = r.0; h' = r.1; few = r.2; host_walks = r.3; meets = leaving map edge.0 stood edge.2 (omega arith) (omega (arith, edge.1)) }
-  lands p most before g' shown (Leaps core) h lt_p unwritten alike fits r = absurd fits
+      record { j = r.0; p' = suc p; h' = r.1; few = omega (arith, r.2); slow = omega arith; host_walks = r.3; meets = leaving map edge.0 stood edge.2 (omega arith) (omega (arith, edge.1)) }
+  lands p most before g' shown (Leaps core) h lt_p unwritten alike fits r =
+      let behind = subst (IsBehind map s.area s.guest shown before) (sym r.5) fits.1 in
+      let stood : Stood s map g' r.1.core = record {
+        is_map = is_map;
+        represents = record {
+          locs = λ x lx alive. behind.represents.locs x lx tt ∙ alike.locs x alive;
+          bytes = λ a held. behind.represents.bytes a held ∙ ap (λ f. f a) alike.bytes;
+        };
+        in_range = λ x lx. subst (λ v. v < location_range x) (sym (behind.represents.locs x lx tt)) (behind.in_range x lx);
+        is_core = behind.is_core;
+        unwritten = walk_keeps s t.keeps r.0 h r.1 r.3 unwritten;
+      } in
+      let leap = leaps_stand r.1.eip r.4 in
+      let d = leaps_to s t map g' r.1 stood (ap leap_target r.5 ∙ fits.0 ∙ alike.next) leap.1 in
+      by_door r.0 r.1 r.2 r.3 leap.0 d (t.doors g'.next)
+    where
+      by_door : (i : ℕ) (h1 : Host) → i ≤ most → Walks Anywhere s.host_step i h h1 → map ≡ no_registers → (d : Leapt s t map g' h1) → DoorAt s g'.next → Lands s p most g' h
+      by_door i h1 le w empty d (inl at) = record {
+        j = i + d.j;
+        p' = 0;
+        h' = d.h';
+        few = omega (arith, le, d.few);
+        slow = omega (arith, d.some);
+        host_walks = join_walks Anywhere s.host_step i d.j h h1 d.h' w d.host_walks;
+        meets = enters s t 0 g' d.h' map (omega arith) (empty ∙ sym at.1) d.stood (d.here ∙ at.0);
+      }
+      by_door i h1 le w empty d (inr edge) = record {
+        j = i + d.j;
+        p' = suc p;
+        h' = d.h';
+        few = omega (arith, le, d.few);
+        slow = omega arith;
+        host_walks = join_walks Anywhere s.host_step i d.j h h1 d.h' w d.host_walks;
+        meets = leaving map edge.0 d.stood (subst (λ a. SwitchAt s g'.next edge.0 map a) (sym d.here) (subst (λ m. SwitchAt s g'.next edge.0 m (s.door g'.next)) (sym empty) edge.2)) (omega arith) (omega (arith, edge.1));
+      }
   lands p most before g' shown (Stops e) h lt_p unwritten alike fits r = absurd fits
   lands p most before g' shown (Calls call exits) h lt_p unwritten alike fits r = absurd fits
   lands p most before g' shown Falls h lt_p unwritten alike fits r = absurd fits
@@ -71,7 +111,7 @@ module _ (s : Setting) (t : IsTranslation s) (map : Map) (is_map : IsMap map) (l
       onward (record {
         k = 1;
         j = d.j;
-        p' = suc p;
+        p' = d.p';
         q' = 0;
         g' = g';
         h' = d.h';
@@ -79,7 +119,7 @@ module _ (s : Setting) (t : IsTranslation s) (map : Map) (is_map : IsMap map) (l
         host_walks = d.host_walks;
         meets = d.meets;
         in_block = omega arith;
-        slow = omega arith;
+        slow = omega (arith, d.slow);
         fast = omega (arith, d.few);
       })
   by_exit p q most g h (Ends e) (Ends shown) exit lt_p le_q few unwritten step same fits r = by_end (is_outside e) fits
@@ -106,12 +146,12 @@ module _ (s : Setting) (t : IsTranslation s) (map : Map) (is_map : IsMap map) (l
         soon = omega (arith, r.4);
         answered = λ a. let d = lands p r.1 h.core (next a) (next' a) (exits a) (r.3 a) lt_p (λ x no. after a x no ∙ kept x no) (alike.1 a) (fits.1 a) (r.7 a) in record {
           i = d.j;
-          p' = suc p;
+          p' = d.p';
           q' = 0;
           h' = d.h';
           host_walks = d.host_walks;
           meets = d.meets;
-          slow = omega arith;
+          slow = omega (arith, d.slow);
           fast = omega (arith, d.few, r.4);
         };
       })
@@ -131,5 +171,5 @@ module _ (s : Setting) (t : IsTranslation s) where
         in_range = full_in_range s map g h.core stood;
         is_core = stood.is_core;
       } in
-      by_exit s t map stood.is_map st.labels st.edges st.edges_stand p q (length items) g h (executes s.guest word g) (executes s.guest word shown) (flow s.host s.area items None h.choices h.core) lt_p le_q st.few stood.unwritten (st.fetched g refl) (t.live word g shown st.fetched alike)
-      (st.fits shown h.core h.choices refl before) (flows_are_walked s.host s.area s.host_step st.labels st.edges [] items None h.eip h st.stand refl)
+      by_exit s t map stood.is_map st.labels st.edges st.leaps st.edges_stand st.leaps_stand p q (length items) g h (executes s.guest word g) (executes s.guest word shown) (flow s.host s.area items None h.choices h.core) lt_p le_q st.tile.few stood.unwritten (st.tile.fetched g refl) (t.live word g shown st.tile.fetched alike)
+      (st.tile.fits shown h.core h.choices refl before) (flows_are_walked s.host s.area s.host_step st.labels st.edges st.leaps items None h.eip h st.stand refl)

@@ -1,5 +1,5 @@
 -- The guest that the host represents with nothing dead, and what every walk of the host keeps.
-use Rattle.std.proofs.Common.{◌≡◌, ℕ, ◌<◌, Bool, true, false, cond, ltb, refl, sym, ap, ◌∙◌, subst}
+use Rattle.std.proofs.Common.{◌≡◌, ℕ, ◌<◌, Bool, true, false, cond, ltb, Option, Some, None, refl, sym, ap, ◌∙◌, subst}
 use Rattle.std.proofs.lemmas.Bool.{ltb-true, lt-ltb}
 use Rattle.ppc_isa.specs.declared.map.Map.{Map}
 use Rattle.reg_map.specs.Home.{location_count, location_range}
@@ -8,7 +8,7 @@ use Rattle.runs.specs.Simulation.{Walks, stays, walks}
 use Rattle.machines.specs.Guest.{Guest}
 use Rattle.machines.specs.Host.{Core, Host, value_at}
 use Rattle.machines.specs.Representation.{location_place, Represents, AreInRange}
-use Rattle.tiles.specs.Row.{Any}
+use Rattle.symbolic_tiles.specs.Row.{GoesThrough, Any}
 use Rattle.simulation.specs.Setting.{Setting, Stood, Alike, KeepsUnwrittenBy}
 
 -- the guest with the values that the places have, and beyond the locations its own
@@ -34,6 +34,11 @@ module _ (s : Setting) (map : Map) (g : Guest) (core : Core) (stood : Stood s ma
 
   pub full_in_range : AreInRange shown
   full_in_range x lx = subst (λ v. v < location_range x) (sym (full_at map s.area core g x lx)) (stood.in_range x lx)
+
+-- where a fact holds through, there is a core
+pub goes_to : (o : Option Core) (P : Core → Type 0) → GoesThrough o P → (core : Core) × (o ≡ Some core) × P core
+goes_to None P h = absurd h
+goes_to (Some core) P h = (core, refl, h)
 
 -- bytes that may not be written are the file's
 abbrev pub IsUnwritten : Setting → Core → Type 0

@@ -6,8 +6,9 @@ use Rattle.runs.specs.Simulation.{Walks, stays, walks}
 use Rattle.runs.proofs.Walking.{join_walks}
 use Rattle.machines.specs.Guest.{Guest}
 use Rattle.machines.specs.Host.{Host}
+use Rattle.code_layout.specs.Places.{no_registers}
 use Rattle.simulation.specs.Setting.{Setting, IsOffCode, Stood}
-use Rattle.simulation.specs.Plan.{PlanStep, Move, Tile, BranchTile, FlowTile, word_count, room, HasFewMoves, SwitchAt, BlockAt, Begins}
+use Rattle.simulation.specs.Plan.{PlanStep, Move, Tile, BranchTile, FlowTile, word_count, room, HasFewMoves, SwitchAt, DoorAt, BlockAt, Begins}
 use Rattle.simulation.specs.Relation.{Meets, inside, leaving, gone, IsTranslation, Starts, MeetingIsBounded, MeetingAdvances, Settled, in_block, holding, MeetingSettles}
 use Rattle.simulation.proofs.Switches.{Steps, jumped, moves, by_gone, enters, by_switch, by_move}
 use Rattle.simulation.proofs.Tiles.{by_tile, by_branch_tile}
@@ -32,7 +33,11 @@ module _ (s : Setting) (t : IsTranslation s) where
   advances p q g h (gone off here le_p le_q) = by_gone s p q g h off le_p
 
   pub starts : (g : Guest) (h : Host) → Starts s g h → Meets s 0 0 g h
-  starts g h start = enters s t 0 g h (s.entry_map g.next) (omega arith) refl start.stood start.here
+  starts g h start = by_door (t.doors g.next)
+    where
+      by_door : DoorAt s g.next → Meets s 0 0 g h
+      by_door (inl at) = enters s t 0 g h no_registers (omega arith) (sym at.1) start.stood (start.here ∙ at.0)
+      by_door (inr edge) = leaving no_registers edge.0 start.stood (subst (λ a. SwitchAt s g.next edge.0 no_registers a) (sym start.here) edge.2) (omega arith) (omega (arith, edge.1))
 
   abbrev Settles : Guest → Host → Type 0
   Settles g h = (j : ℕ) × (h' : Host) × Walks Anywhere s.host_step j h h' × Settled s g h'

@@ -1,17 +1,19 @@
 -- Moves, edges and `hold`.
 use Rattle.std.proofs.Common.{◌≡◌, ℕ, zero, suc, ◌+◌, ◌*◌, ◌≤◌, ◌⊎◌, inl, inr, List, [], ◌∷◌, length, drop, refl, sym, ap, ◌∙◌, subst, arith}
+use Rattle.std.proofs.lemmas.List.{length-map}
 use Rattle.ppc_isa.specs.declared.map.Map.{Map}
 use Rattle.ia_codec.specs.declared.op.Op.{Op}
 use Rattle.runs.specs.Machine.{Anywhere, reported, run}
 use Rattle.runs.specs.Simulation.{Walks, stays, walks, Advance, onward, lost}
 use Rattle.machines.specs.Guest.{Guest}
 use Rattle.machines.specs.Host.{Choice, Core, Host}
-use Rattle.tiles.specs.Perform.{perform}
-use Rattle.tiles.specs.Standing.{StandAt}
-use Rattle.tiles.proofs.Lines.{goes_to}
-use Rattle.tiles.proofs.Walked.{ops_are_walked}
+use Rattle.symbolic_tiles.specs.Perform.{perform}
+use Rattle.symbolic_tiles.specs.Standing.{StandAt}
+use Rattle.symbolic_tiles.proofs.Walked.{ops_are_walked}
+use Rattle.code_layout.specs.Code.{op_at, ops_at}
 use Rattle.simulation.specs.Setting.{Setting, IsOffCode, JumpsTo, Stood}
 use Rattle.simulation.specs.Plan.{PlanStep, Move, word_count, room, HasFewMoves, IsMove, SwitchAt, BlockAt, Begins}
+use Rattle.simulation.proofs.Full.{goes_to}
 use Rattle.simulation.specs.Relation.{Meets, inside, leaving, gone, IsTranslation, HoldHolds}
 
 module _ (s : Setting) where
@@ -30,11 +32,11 @@ module _ (s : Setting) where
     pub host_walks : Walks Anywhere s.host_step (length ops) h (record { core = core; eip = b; choices = left })
     pub stood : Stood s to g core
 
-  pub moves : (map to : Map) (ops : List Op) (g : Guest) (h : Host) (b : ℕ) → Stood s map g h.core → IsMove s g.next map to ops → StandAt s.host s.host_step h.eip ops b → Moved to ops g h b
+  pub moves : (map to : Map) (ops : List Op) (g : Guest) (h : Host) (b : ℕ) → Stood s map g h.core → IsMove s g.next map to ops → StandAt s.host s.host_step h.eip (ops_at s.area ops) b → Moved to ops g h b
   moves map to ops g h b stood move stand =
-      let d = goes_to (perform s.host ops h.choices h.core) (Stood s to g) (move.moves g h.core h.choices refl stood) in
-      let w = ops_are_walked s.host s.host_step ops h.eip b h d.0 stand refl d.1 in
-      record { core = d.0; left = w.0; host_walks = w.1; stood = d.2 }
+      let d = goes_to (perform s.host (ops_at s.area ops) h.choices h.core) (Stood s to g) (move.moves g h.core h.choices refl stood) in
+      let w = ops_are_walked s.host s.host_step (ops_at s.area ops) h.eip b h d.0 stand refl d.1 in
+      record { core = d.0; left = w.0; host_walks = subst (λ n. Walks Anywhere s.host_step n h (record { core = d.0; eip = b; choices = w.0 })) (length-map ops (op_at s.area)) w.1; stood = d.2 }
 
   -- from `hold` the host goes on for ever and lists nothing
   pub at_hold : JumpsTo s s.hold s.hold → HoldHolds s

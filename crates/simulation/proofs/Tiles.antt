@@ -1,5 +1,6 @@
 -- Tiles, and tiles with a branch.
 use Rattle.std.proofs.Common.{◌≡◌, ℕ, ◌+◌, ◌≤◌, Bool, true, false, cond, List, ◌∷◌, length, Some, refl, sym, ap, ◌∙◌, subst, arith}
+use Rattle.std.proofs.lemmas.List.{length-map}
 use Rattle.ppc_isa.specs.declared.map.Map.{Map}
 use Rattle.ppc_isa.specs.declared.instr.Instr.{Instr}
 use Rattle.ia_codec.specs.declared.op.Op.{Op}
@@ -10,16 +11,16 @@ use Rattle.runs.specs.Simulation.{Walks, stays, walks, onward, lost}
 use Rattle.runs.proofs.Walking.{join_walks}
 use Rattle.machines.specs.Guest.{Guest}
 use Rattle.machines.specs.Host.{Choice, Core, Host}
-use Rattle.tiles.specs.Perform.{perform}
-use Rattle.tiles.specs.Row.{Window, IsReady, IsDone}
-use Rattle.tiles.proofs.Lines.{goes_to}
-use Rattle.tiles.proofs.Walked.{ops_are_walked}
+use Rattle.symbolic_tiles.specs.Perform.{perform}
+use Rattle.symbolic_tiles.specs.Row.{Window, IsReady, IsDone}
+use Rattle.symbolic_tiles.proofs.Walked.{ops_are_walked}
 use Rattle.simulation.specs.Windows.{rows_of, behind_all}
+use Rattle.code_layout.specs.Code.{op_at, ops_at}
 use Rattle.simulation.specs.Setting.{Setting, Stood}
 use Rattle.simulation.specs.Plan.{PlanStep, Tile, BranchTile, word_count, room, HasFewMoves, EdgeAt, SwitchAt, TileAt, IsUnneeded, BlockAt}
 use Rattle.simulation.specs.Relation.{inside, leaving, IsTranslation}
 use Rattle.simulation.proofs.Windows.{Passes, is_next, words_pass, other_goes}
-use Rattle.simulation.proofs.Full.{full, full_alike, full_represents, full_in_range, walk_keeps}
+use Rattle.simulation.proofs.Full.{goes_to, full, full_alike, full_represents, full_in_range, walk_keeps}
 use Rattle.simulation.proofs.Switches.{Steps, jumped}
 
 not_dead : (dead live : Bool) → (dead ≡ true → live ≡ false) → live ≡ true → dead ≡ false
@@ -44,18 +45,20 @@ module _ (s : Setting) (t : IsTranslation s) where
   pub passes : (map : Map) (words : List Instr) (window : Window) (ops : List Op) (g g' : Guest) (h : Host) (b : ℕ) → Stood s map g h.core → TileAt s map g.next words window ops h.eip b → rows_of s.guest words g ≡ Goes g' → IsUnneeded s window g'.next → Passed s map words window ops g g' h b
   passes map words window ops g g' h b stood tile goes unneeded =
       let shown = full map s.area h.core g in
-      let other = other_goes s t.live words g.next g shown g' tile.fetched (is_next s words g) (full_alike s map g h.core stood) goes in
-      let outcome : window.outcome s.guest shown ≡ Goes other.0 = tile.rows shown ∙ other.1 in
+      let other = other_goes s t.live words g.next g shown g' tile.0.fetched (is_next s words g) (full_alike s map g h.core stood) goes in
+      let outcome : window.outcome s.guest shown ≡ Goes other.0 = tile.0.rows shown ∙ other.1 in
       let ready : IsReady window map s.area s.guest s.host shown h.core = record {
         page = t.page;
-        loads = λ a c. t.segments.held a (tile.inside.loads shown other.0 a outcome c);
-        stores = λ a c. let w = tile.inside.stores shown other.0 a outcome c in t.segments.writable a w.0 ∙ w.1;
+        writes_held = t.writes_held;
+        loads = λ a c. t.segments.held a (tile.0.inside.loads shown other.0 a outcome c);
+        stores = λ a c. let w = tile.0.inside.stores shown other.0 a outcome c in t.segments.writable a w.0 ∙ w.1;
         represents = full_represents s map g h.core stood;
         in_range = full_in_range s map g h.core stood;
         is_core = stood.is_core;
       } in
-      let d = goes_to (perform s.host ops h.choices h.core) (IsDone window map s.area s.guest shown other.0 h.core) (tile.does s.guest s.host shown other.0 h.core h.choices ready outcome) in
-      let w = ops_are_walked s.host s.host_step ops h.eip b h d.0 tile.stands refl d.1 in
+      let d = goes_to (perform s.host (ops_at s.area ops) h.choices h.core) (IsDone window map s.area s.guest shown other.0 h.core) (tile.0.does s.guest s.host shown other.0 h.core h.choices ready outcome) in
+      let w = ops_are_walked s.host s.host_step (ops_at s.area ops) h.eip b h d.0 tile.1 refl d.1 in
+      let walked = subst (λ n. Walks Anywhere s.host_step n h (record { core = d.0; eip = b; choices = w.0 })) (length-map ops (op_at s.area)) w.1 in
       record {
         shown = shown;
         shown_after = other.0;
@@ -64,7 +67,7 @@ module _ (s : Setting) (t : IsTranslation s) where
         here = refl;
         shown_goes = other.1;
         next = other.2.next;
-        host_walks = w.1;
+        host_walks = walked;
         condition = d.2.condition;
         stood = record {
           is_map = stood.is_map;
@@ -74,12 +77,12 @@ module _ (s : Setting) (t : IsTranslation s) where
           };
           in_range = d.2.in_range;
           is_core = d.2.is_core;
-          unwritten = walk_keeps s t.keeps (length ops) h (record { core = d.0; eip = b; choices = w.0 }) w.1 stood.unwritten;
+          unwritten = walk_keeps s t.keeps (length ops) h (record { core = d.0; eip = b; choices = w.0 }) walked stood.unwritten;
         };
       }
 
   pub by_tile : (p q : ℕ) (g : Guest) (h : Host) (map : Map) (words : List Instr) (window : Window) (ops : List Op) (steps : List PlanStep) → Stood s map g h.core → BlockAt s map g.next h.eip (Tile words window ops ∷ steps) → p + (length words + word_count steps) ≤ 64 → HasFewMoves steps → room steps ≤ 40 → q ≤ 40 → Steps s p q g h
-  by_tile p q g h map words window ops steps stood st in_block few few_first le_q = by_rows (rows_of s.guest words g) refl (words_pass s words g.next g st.1.fetched (is_next s words g))
+  by_tile p q g h map words window ops steps stood st in_block few few_first le_q = by_rows (rows_of s.guest words g) refl (words_pass s words g.next g st.1.0.fetched (is_next s words g))
     where
       by_rows : (o : Outcome Guest) → rows_of s.guest words g ≡ o → Passes s (length words) g o → Steps s p q g h
       by_rows (Goes g') goes w =
@@ -97,13 +100,13 @@ module _ (s : Setting) (t : IsTranslation s) where
             meets = inside map steps d.stood (subst (λ k. BlockAt s map k st.0 steps) (sym next) st.4) (omega arith) few (omega arith);
             in_block = omega arith;
             slow = omega arith;
-            fast = omega (arith, st.1.some, st.1.few);
+            fast = omega (arith, st.1.0.some, st.1.0.few);
           })
       by_rows (Asks call next) goes w = absurd w
       by_rows (Ends how) goes w = lost (record { k = w.0; g' = w.1; guest_walks = w.3; goes_outside = w.4; in_block = omega (arith, w.2) })
 
   pub by_branch_tile : (p q : ℕ) (g : Guest) (h : Host) (map : Map) (words : List Instr) (window : Window) (ops : List Op) (condition : Condition) (target : ℕ) (steps : List PlanStep) → Stood s map g h.core → BlockAt s map g.next h.eip (BranchTile words window ops condition target ∷ steps) → p + (length words + word_count steps) ≤ 64 → q ≤ 40 → Steps s p q g h
-  by_branch_tile p q g h map words window ops condition target steps stood st in_block le_q = by_rows (rows_of s.guest words g) refl (words_pass s words g.next g st.3.fetched (is_next s words g))
+  by_branch_tile p q g h map words window ops condition target steps stood st in_block le_q = by_rows (rows_of s.guest words g) refl (words_pass s words g.next g st.3.0.fetched (is_next s words g))
     where
       after_all : ℕ
       after_all = behind_all g.next words
@@ -121,7 +124,7 @@ module _ (s : Setting) (t : IsTranslation s) where
         meets = leaving map edge.0 stood' (subst (λ k. SwitchAt s k edge.0 map at) (sym next) edge.2) (omega arith) (omega (arith, edge.1));
         in_block = omega arith;
         slow = omega arith;
-        fast = omega (arith, st.3.some, st.3.few);
+        fast = omega (arith, st.3.0.some, st.3.0.few);
       })
 
       either : (b : Bool) → IsUnneeded s window (cond b target after_all)

@@ -5,7 +5,8 @@ use Rattle.ppc_isa.specs.declared.instr.Instr.{Instr}
 use Rattle.runs.specs.Machine.{Outcome, Goes, Asks, Ends, Anywhere}
 use Rattle.runs.specs.Simulation.{Walks, stays, walks}
 use Rattle.machines.specs.Guest.{Guest, acts, effect_of, behind}
-use Rattle.simulation.specs.Windows.{then_row, rows_of, IsQuiet, IsStraight, IsLinked}
+use Rattle.symbolic_tiles.specs.Straight.{IsStraight}
+use Rattle.simulation.specs.Windows.{then_row, rows_of, IsQuiet, IsLinked}
 use Rattle.simulation.specs.Setting.{Setting, IsWordAt, Alike, AreAlike, LiveIsEnough}
 use Rattle.simulation.specs.Plan.{AreWordsAt}
 

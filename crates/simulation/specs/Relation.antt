@@ -1,16 +1,22 @@
 -- The relation between guest and host that every step of a plan keeps. This project's own.
-use Rattle.std.specs.Prelude.{◌≡◌, ℕ, ◌+◌, ◌*◌, ◌≤◌, ◌⊎◌, List, length}
+use Rattle.std.specs.Prelude.{◌≢◌, ◌<◌, false, [], ◌∷◌, Some, None, ◌≡◌, ℕ, ◌+◌, ◌*◌, ◌≤◌, ◌⊎◌, List, length}
 use Rattle.space.specs.Reports.{AnswerValue, ended}
 use Rattle.space.specs.declared.call.End.TheVariants.{Running}
 use Rattle.ppc_isa.specs.declared.map.Map.{Map}
+use Rattle.ppc_isa.specs.Map.{IsMap}
+use Rattle.ia_codec.specs.declared.op.Op.TheVariants.{MovTo, MovFrom}
+use Rattle.ia_codec.specs.declared.op.Operand.TheVariants.{Abs}
+use Rattle.reg_map.specs.Home.{home}
+use Rattle.reg_map.specs.Place.{slot_of}
 use Rattle.runs.specs.Machine.{Anywhere, run, AgreesFrom}
 use Rattle.runs.specs.Simulation.{IsBounded, Advances, Walks}
 use Rattle.machines.specs.Guest.{Guest}
 use Rattle.machines.specs.Host.{Host}
 use Rattle.machines.specs.Representation.{IsHomePage, HasSegments}
-use Rattle.tiles.specs.Flow.{WritesHeld}
-use Rattle.simulation.specs.Setting.{Setting, IsOffCode, JumpsTo, Stood, KeepsUnwrittenBy, LiveIsEnough}
-use Rattle.simulation.specs.Plan.{PlanStep, word_count, room, HasFewMoves, SwitchAt, BlockAt, Begins}
+use Rattle.symbolic_tiles.specs.Row.{WritesHeld}
+use Rattle.code_layout.specs.Places.{no_registers}
+use Rattle.simulation.specs.Setting.{Setting, HasTable, IsOffCode, JumpsTo, Stood, KeepsUnwrittenBy, LiveIsEnough}
+use Rattle.simulation.specs.Plan.{PlanStep, word_count, room, HasFewMoves, IsMove, SwitchAt, DoorAt, BlockAt, Begins}
 
 module _ (s : Setting) where
   -- The states meet inside a block, with steps of its plan still to come; or on an edge, with moves still to come; or the
@@ -31,11 +37,13 @@ module _ (s : Setting) where
     pub live : LiveIsEnough s
     pub blocks : (w : ℕ) → Begins s w ⊎ (IsOffCode s w × (s.target w ≡ s.hold))
     pub holds : JumpsTo s s.hold s.hold
+    pub has_table : HasTable s
+    pub doors : (w : ℕ) → DoorAt s w
 
-  -- where the runs begin: the host stands where an edge to the guest's first word leads
+  -- where the runs begin: the host stands where the table leads at the guest's first word, with no GPR in a register
   pub record Starts (g : Guest) (h : Host) : Type 0 where
-    pub stood : Stood s (s.entry_map g.next) g h.core
-    pub here : h.eip ≡ s.target g.next
+    pub stood : Stood s no_registers g h.core
+    pub here : h.eip ≡ s.door g.next
 
   abbrev pub MeetingIsBounded : Type 0
   MeetingIsBounded = IsBounded s.guest_step s.host_step Anywhere Meets
@@ -59,3 +67,12 @@ module _ (s : Setting) where
   -- from the start on the host agrees with the guest
   abbrev pub StartAgrees : Type 0
   StartAgrees = (g : Guest) (h : Host) → Starts g h → AgreesFrom s.guest_step s.host_step Anywhere g h
+
+-- Maps that differ in the place of one GPR: a move from its register to its home, or from its home to a register, is a
+-- move from one to the other; where it is dead no op is needed.
+abbrev pub MovesKeep : Type 0
+MovesKeep =
+    (s : Setting) → IsHomePage s.area s.guest s.host → (from to : Map) (n : ℕ) → IsMap to → n < 32 → ((x : ℕ) → x ≢ n → slot_of to x ≡ slot_of from x) → (next : ℕ) →
+    ((r : ℕ) → slot_of from n ≡ Some r → slot_of to n ≡ None → IsMove s next from to (MovTo (Abs (home n)) r ∷ []))
+    × ((r : ℕ) → slot_of from n ≡ None → slot_of to n ≡ Some r → IsMove s next from to (MovFrom r (Abs (home n)) ∷ []))
+    × (s.live next n ≡ false → IsMove s next from to [])

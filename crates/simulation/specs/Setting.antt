@@ -1,5 +1,5 @@
 -- The two machines between which a simulation is told, and what each step of theirs leaves alone. This project's own.
-use Rattle.std.specs.Prelude.{◌≡◌, ℕ, ◌<◌, Bool, true, false, cond, drop, Option}
+use Rattle.std.specs.Prelude.{◌≡◌, ℕ, ◌+◌, ◌*◌, ◌%◌, ◌^◌, ◌<◌, ◌≤◌, ◌⊎◌, Bool, true, false, cond, drop, Option}
 use Rattle.space.specs.declared.call.End.TheVariants.{Outside}
 use Rattle.space.specs.Reports.{AnswerValue}
 use Rattle.ppc_isa.specs.declared.instr.Instr.{Instr}
@@ -9,15 +9,17 @@ use Rattle.ia_codec.specs.declared.op.Condition.{Condition}
 use Rattle.ia_codec.specs.Rows.{condition_holds}
 use Rattle.reg_map.specs.Home.{location_count, location_range}
 use Rattle.runs.specs.Machine.{Outcome, Goes, Asks, Ends}
-use Rattle.machines.specs.Memory.{Rights}
+use Rattle.machines.specs.Memory.{Rights, load}
 use Rattle.machines.specs.Guest.{Guest, executes}
 use Rattle.machines.specs.Host.{Core, Host, value_at}
 use Rattle.machines.specs.Representation.{location_place, Represents}
-use Rattle.tiles.specs.Row.{IsCore}
+use Rattle.symbolic_tiles.specs.Row.{IsCore}
 
 -- What no step changes: the rights to memory, the home page's address, the bytes that the written file lays out, both
 -- machines, where `hold` stands; for each guest address the register map under which the block there begins and the
--- host address to which an edge leads; and which locations are live before the word at an address.
+-- host address to which an edge leads, and that of the door, to which the table leads: the block, or the adapter before
+-- it; the first code word's address, how many there are, and where the table stands; and which locations are live before
+-- the word at an address.
 pub record Setting : Type 0 where
   pub guest : Rights
   pub host : Rights
@@ -28,6 +30,10 @@ pub record Setting : Type 0 where
   pub hold : ℕ
   pub entry_map : ℕ → Map
   pub target : ℕ → ℕ
+  pub door : ℕ → ℕ
+  pub first : ℕ
+  pub count : ℕ
+  pub table : ℕ
   pub live : ℕ → ℕ → Bool
 
 module _ (s : Setting) where
@@ -81,3 +87,15 @@ module _ (s : Setting) where
   -- What isn't live before a word makes no difference: its row has the same outcome, but for what isn't live behind it.
   abbrev pub LiveIsEnough : Type 0
   LiveIsEnough = (word : Option Instr) (g other : Guest) → IsWordAt g.next word → Alike g other → AreAlike (executes s.guest word g) (executes s.guest word other)
+
+  -- The table of doors: a word for each code word, which can be read and not written. Off the code words the door is `hold`.
+  pub record HasTable : Type 0 where
+    pub aligned : s.first % 4 ≡ 0
+    pub low : s.first + 4 * s.count ≤ 2 ^ 32
+    pub first_word : s.first < 2 ^ 32
+    pub count_word : 4 * s.count < 2 ^ 32
+    pub table_low : s.table + 4 * s.count ≤ 2 ^ 32
+    pub held : (i : ℕ) → i < 4 * s.count → s.host.held (s.table + i) ≡ true
+    pub unwritable : (i : ℕ) → i < 4 * s.count → s.host.writable (s.table + i) ≡ false
+    pub words : (k : ℕ) → k < s.count → load 4 (s.table + 4 * k) s.image ≡ s.door (s.first + 4 * k)
+    pub off : (w : ℕ) → w < 2 ^ 32 → w % 4 ≡ 0 → (w < s.first) ⊎ (s.first + 4 * s.count ≤ w) → s.door w ≡ s.hold

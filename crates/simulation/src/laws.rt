@@ -1,16 +1,22 @@
 //! What the relation gives. Each law is the contract of a function that does nothing.
 
 ghost use Rattle.simulation.specs.Setting.{Setting};
-ghost use Rattle.simulation.specs.Relation.{IsTranslation, MeetingIsBounded, MeetingAdvances, HoldHolds, MeetingSettles, StartAgrees};
+ghost use Rattle.simulation.specs.Relation.{IsTranslation, MeetingIsBounded, MeetingAdvances, HoldHolds, MeetingSettles, StartAgrees, MovesKeep};
 
 use runs::agreement;
 use std::marker::Brand;
 
 /// Each kind of step keeps the relation: a move, a tile, a tile with a branch, the tile of a flow word
-/// with its call or end, an edge, and `hold`.
+/// with its call or end or through the table, an edge, and `hold`.
 pub fn keeps_meeting()
     ensures bounded { (s : Setting) → MeetingIsBounded s }
     ensures advances { (s : Setting) → IsTranslation s → MeetingAdvances s }
+{}
+
+/// A move of a GPR from its register to its home, or from its home to a register, is a move from the one map
+/// to the other, and so are no ops where the GPR is dead.
+pub fn moves_keep()
+    ensures { MovesKeep }
 {}
 
 /// From `hold` the host goes on for ever and makes no call.

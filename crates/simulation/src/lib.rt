@@ -3,4 +3,4 @@
 
 mod laws;
 
-pub use laws::{agrees, hold_holds, keeps_meeting, settles};
+pub use laws::{agrees, hold_holds, keeps_meeting, moves_keep, settles};

@@ -5,10 +5,9 @@ ghost use Rattle.space.specs.declared.program.Kind.TheVariants.{PowerPc};
 ghost use Rattle.elf_load.specs.Faults.{IsProgramOf};
 ghost use Rattle.machines.specs.Files.{Agrees};
 ghost use Rattle.agreement.specs.Written.{Carries};
-ghost use Rattle.translate_core.specs.Built.{IsAllBuilt};
 
 use agreement::carrying_agrees;
-use code_layout::{Source, lay};
+use code_layout::{Source, decoded_words, lay};
 use code_words::{code_words, entry_place, first};
 use elf_emit::file;
 use elf_load::host_area;
@@ -33,16 +32,16 @@ pub struct Output {
 /// `NoMemory` where there is no memory for the file.
 pub fn translate(alloc: Global, program: &Program) -> Result<Output, NoMemory>
     requires program { (bytes : List ℕ) × IsProgramOf PowerPc bytes program.now }
-    requires built { IsAllBuilt program.now }
     ensures carries { IfOk result (λ o. Carries program.now o.file) }
     ensures agrees { IfOk result (λ o. Agrees program.now o.file) }
 {
     carrying_agrees();
     let words = code_words(alloc, program)?;
+    let decoded = decoded_words(alloc, &words)?;
     let source = Source {
         first: first(program),
         entry: entry_place(program),
-        words: &words,
+        words: &decoded,
     };
     let area = host_area(program);
     let code = lay(alloc, &source, area)?;

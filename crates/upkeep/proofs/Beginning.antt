@@ -10,7 +10,7 @@ use Rattle.reg_map.specs.Home.{home, home_size, location_range}
 use Rattle.machines.specs.Memory.{load, update, first_bytes}
 use Rattle.machines.specs.Guest.{stack_start, guest_start}
 use Rattle.machines.specs.Host.{Choice, Core, choice_at, chosen_word, host_start}
-use Rattle.code_layout.specs.Code.{no_registers}
+use Rattle.code_layout.specs.Places.{no_registers}
 use Rattle.elf_emit.specs.Translation.{home_page}
 use Rattle.simulation.specs.Setting.{Stood}
 use Rattle.upkeep.specs.Loaded.{AreBytes, HaveBytes}
@@ -136,6 +136,6 @@ starts P Q area table code s choices free is are set =
       unwritten = λ a off. ap (λ (f : ℕ → ℕ). f a) (sym set.image);
     } in
     record {
-      stood = subst (λ m. Stood s m (guest_start P) core) (sym (set.entry_map P.entry)) stood;
+      stood = stood;
       here = set.entry;
     }

@@ -11,7 +11,7 @@ use Rattle.machines.specs.Memory.{Rights, Code, code_in, is_code, is_held, is_wr
 use Rattle.machines.specs.Agreement.{without}
 use Rattle.machines.specs.Representation.{IsHomePage, HasSegments}
 use Rattle.machines.proofs.Tests.{both}
-use Rattle.tiles.proofs.FlowRows.{programs_write_held}
+use Rattle.symbolic_tiles.proofs.PlaceLaws.{programs_write_held}
 use Rattle.elf_emit.specs.Translation.{home_page}
 use Rattle.upkeep.specs.Written.{as_data, home_segment, table_segment, code_segment, written_segments, IsWritten, narrow_rights, host_code, WrittenIsInPlace}
 use Rattle.upkeep.proofs.Page.{page_length}
@@ -89,6 +89,28 @@ module _ (P : Program) (area : ℕ) (table code : List ℕ) where
         ∙ ap (λ b. cond b (get_or code (area + 0x81000 + k - (area + 0x81000)) 0) 0) (within (area + 0x81000) (length code) (area + 0x81000 + k) (omega arith) (omega arith))
         ∙ ap (λ i. get_or code i 0) e
 
+    table_here_held : (k : ℕ) → k < length table → length table ≤ 0x80000 → is_held all (area + 0x1000 + k) ≡ true
+    unfolding is_held
+    table_here_held k lt fits =
+        let e = page_length in
+        let off : is_within area (length home_page) (area + 0x1000 + k) ≡ false = not_true (is_within area (length home_page) (area + 0x1000 + k)) (λ h. let inside = from_within area (length home_page) (area + 0x1000 + k) h in let last = inside.1 in omega (arith, e, last)) in
+        held_behind behind (area + 0x1000 + k) P.segments (off_source (area + 0x1000 + k) (omega arith) (omega arith))
+        ∙ rw (off, within (area + 0x1000) (length table) (area + 0x1000 + k) (omega arith) (omega arith)) refl
+
+    table_not_written : (k : ℕ) → k < length table → length table ≤ 0x80000 → is_writable all (area + 0x1000 + k) ≡ false
+    unfolding is_writable
+    table_not_written k lt fits =
+        let e = page_length in
+        let off : is_within area (length home_page) (area + 0x1000 + k) ≡ false = not_true (is_within area (length home_page) (area + 0x1000 + k)) (λ h. let inside = from_within area (length home_page) (area + 0x1000 + k) h in let last = inside.1 in omega (arith, e, last)) in
+        writable_behind behind (area + 0x1000 + k) P.segments (off_source (area + 0x1000 + k) (omega arith) (omega arith))
+        ∙ rw off refl
+
+    table_not_code : (k : ℕ) → k < length table → length table ≤ 0x80000 → is_code (host_code area code) (area + 0x1000 + k) ≡ false
+    table_not_code k lt fits = not_true (is_code (host_code area code) (area + 0x1000 + k)) (λ h. let inside = from_within (area + 0x81000) (length code) (area + 0x1000 + k) h in let first = inside.0 in omega arith)
+
+    table_readable : (k : ℕ) → k < length table → length table ≤ 0x80000 → host.held (area + 0x1000 + k) ≡ true
+    table_readable k lt fits = both (is_held all (area + 0x1000 + k)) (not (is_code (host_code area code) (area + 0x1000 + k))) (table_here_held k lt fits) (ap not (table_not_code k lt fits))
+
     module _ (code_fits : 0x81000 + length code ≤ 0x0A000000) where
       source_not_code : (a : ℕ) → is_held P.segments a ≡ true → is_code (host_code area code) a ≡ false
       source_not_code a held = not_within (area + 0x81000) (length code) a (omega arith) (omega arith) (source_apart a held)
@@ -139,6 +161,8 @@ in_place P Q area table code free is = record {
   page = subst (IsHomePage area (rights_of P)) (rights_are P Q area table code is) (is_page P area table code free is.code_fits);
   segments = subst (HasSegments (rights_of P)) (rights_are P Q area table code is) (has_segments P area table code free is.code_fits);
   writes_held = programs_write_held P;
+  table_held = λ k lt. ap (λ (r : Rights). r.held (area + 0x1000 + k)) (sym (rights_are P Q area table code is)) ∙ table_readable P area table code free k lt is.table_fits;
+  table_unwritable = λ k lt. ap (λ (r : Rights). r.writable (area + 0x1000 + k)) (sym (rights_are P Q area table code is)) ∙ table_not_written P area table code free k lt is.table_fits;
   table_stands = λ k lt. ap (λ ss. first_bytes ss (area + 0x1000 + k)) is.segments ∙ table_here P area table code free k lt is.table_fits;
   code_stands = λ k lt. ap (λ ss. first_bytes ss (area + 0x81000 + k)) is.segments ∙ code_here P area table code free k lt is.table_fits is.code_fits;
   code_is = code_is P Q area table code is;

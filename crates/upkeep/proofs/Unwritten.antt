@@ -17,7 +17,7 @@ use Rattle.machines.specs.Memory.{update, store, block, put_block, each_byte, Ri
 use Rattle.machines.specs.Readings.{Fetched}
 use Rattle.machines.specs.Host.{Choice, Core, Host, Place, Register, Memory, place_of, choice_at, has_result, extend_size, address_in, byte_for, puts_both, bind, values_of, reads, puts, put_at, leaves, gives_to, changes, sets, sets_byte, multiplies, unary_does, does, goes_to, plain, jumps, jumps_to, faults_on, divides, unary_acts, after_given, asks, system_call, acts, executes, op_bytes, host_step}
 use Rattle.machines.proofs.Tests.{first_of_both, second_of_both}
-use Rattle.tiles.proofs.Memory.{update_other}
+use Rattle.symbolic_tiles.proofs.Memory.{update_other}
 use Rattle.simulation.specs.Setting.{Setting, KeepsUnwrittenBy}
 use Rattle.upkeep.specs.Steps.{KeepsUnwritten, StepKeepsUnwritten, HostKeepsUnwritten, SettingKeepsUnwritten}
 

@@ -8,8 +8,7 @@ use Rattle.machines.specs.Guest.{guest_start}
 use Rattle.machines.specs.Host.{Choice, host_start}
 use Rattle.machines.specs.Agreement.{without}
 use Rattle.machines.specs.Representation.{IsHomePage, HasSegments}
-use Rattle.tiles.specs.Flow.{WritesHeld}
-use Rattle.code_layout.specs.Code.{no_registers}
+use Rattle.symbolic_tiles.specs.Row.{WritesHeld}
 use Rattle.elf_emit.specs.Translation.{home_page}
 use Rattle.simulation.specs.Setting.{Setting}
 use Rattle.simulation.specs.Relation.{Starts}
@@ -46,12 +45,14 @@ narrow_rights Q = without (code_of Q) (rights_of Q)
 abbrev pub host_code : ℕ → List ℕ → Code
 host_code area code = record { at = area + 0x81000; bytes = code }
 
--- The host has the source's memory and, apart from it, the home page; the table and the code stand where they are written,
--- and this code is what it runs.
+-- The host has the source's memory and, apart from it, the home page; the table, which can be read and not written, and
+-- the code stand where they are written, and this code is what it runs.
 pub record IsInPlace (P : Program) (area : ℕ) (table code : List ℕ) (Q : Program) : Type 0 where
   pub page : IsHomePage area (rights_of P) (narrow_rights Q)
   pub segments : HasSegments (rights_of P) (narrow_rights Q)
   pub writes_held : WritesHeld (rights_of P)
+  pub table_held : (k : ℕ) → k < length table → (narrow_rights Q).held (area + 0x1000 + k) ≡ true
+  pub table_unwritable : (k : ℕ) → k < length table → (narrow_rights Q).writable (area + 0x1000 + k) ≡ false
   pub table_stands : (k : ℕ) → k < length table → first_bytes Q.segments (area + 0x1000 + k) ≡ get_or table k 0
   pub code_stands : (k : ℕ) → k < length code → first_bytes Q.segments (area + 0x81000 + k) ≡ get_or code k 0
   pub code_is : code_of Q ≡ host_code area code
@@ -61,14 +62,12 @@ WrittenIsInPlace =
     (P Q : Program) (area : ℕ) (table code : List ℕ) → IsArea P.segments area → IsWritten P area table code Q →
     IsInPlace P area table code Q
 
--- A setting of the simulation with the memory of Q. Blocks begin with no register held, and the run of Q where the edges
--- to P's first word lead.
+-- A setting of the simulation with the memory of Q. The run of Q begins where the table leads at P's first word.
 pub record IsSettingOf (P Q : Program) (area : ℕ) (s : Setting) : Type 0 where
   pub guest : s.guest ≡ rights_of P
   pub area_is : s.area ≡ area
   pub image : s.image ≡ first_bytes Q.segments
-  pub entry_map : (w : ℕ) → s.entry_map w ≡ no_registers
-  pub entry : Q.entry ≡ s.target P.entry
+  pub entry : Q.entry ≡ s.door P.entry
 
 -- all that is written is bytes, where the source's segments, the table and the code are
 abbrev pub WrittenHasBytes : Type 0

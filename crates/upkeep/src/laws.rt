@@ -22,14 +22,15 @@ pub fn loaded_has_bytes()
 {}
 
 /// A written file has the memory of its source and, apart from it, a home page that may be read and
-/// written; the table and the code stand where they are written, and it runs this code.
+/// written; the table, which can be read and not written, and the code stand where they are written, and it
+/// runs this code.
 pub fn has_home()
     ensures { WrittenIsInPlace }
 {}
 
 /// All that is written is bytes. At the start, whatever the processor chooses, every location's value is
-/// at its home, the source's segments have the source's bytes, and the host stands where the edges to the
-/// first word lead.
+/// at its home, the source's segments have the source's bytes, and the host stands where the table leads at
+/// the first word.
 pub fn starts()
     ensures bytes { WrittenHasBytes }
     ensures start { WrittenStarts }

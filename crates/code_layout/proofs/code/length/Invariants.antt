@@ -1,9 +1,10 @@
 use Rattle.std.proofs.Common.{◌≡◌, ◌+◌, ◌*◌, ◌≤◌, drop}
+use Rattle.code_layout.specs.Places.{no_moves}
 use Rattle.code_layout.specs.Code.{items_length}
 use Rattle.code_layout.proofs.code.length.Given as goal
 
 abbrev pub invariant-loop-item : goal.invariant-loop-item
 invariant-loop-item l = record {
-  value : l.bytes + items_length (drop l.item-index l.items) ≡ items_length l.items;
-  bound : l.bytes ≤ 12 * l.item-index;
+  value : l.bytes + items_length no_moves (drop l.item-index l.items) ≡ items_length no_moves l.items;
+  bound : l.bytes ≤ 32 * l.item-index;
 }

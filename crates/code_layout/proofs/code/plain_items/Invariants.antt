@@ -1,5 +1,5 @@
 use Rattle.std.proofs.Common.{◌≡◌, map, take}
-use Rattle.base_flow.specs.declared.flow_op.FlowOp.TheVariants.{Plain}
+use Rattle.symbolic_tiles.specs.declared.flow_op.FlowOp.TheVariants.{Plain}
 use Rattle.code_layout.proofs.code.plain_items.Given as goal
 
 abbrev pub invariant-loop-op : goal.invariant-loop-op

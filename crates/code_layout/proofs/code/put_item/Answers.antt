@@ -1,4 +1,5 @@
-use Rattle.std.proofs.Common.{◌≡◌, ◌+◌, ◌++◌, ◌∙◌, ℕ, OnOk, ap, refl, subst, length, vec_len, rules}
+use Rattle.code_layout.specs.Places.{entry_of}
+use Rattle.std.proofs.Common.{◌-◌, ◌%◌, ◌^◌, arith, ◌≡◌, ◌+◌, ◌++◌, ◌∙◌, ℕ, OnOk, ap, subst, length, vec_len, rules}
 use Rattle.ia_codec.specs.Spelling.{spelling}
 use Rattle.ia_codec.specs.declared.op.Op.{Op}
 use Rattle.ia_codec.specs.declared.op.Op.TheVariants.{Jmp}
@@ -14,5 +15,6 @@ returns-in-Plain-clause-length c =
 pub returns-in-Edge-clause-bytes : goal.returns-in-Edge-clause-bytes
 returns-in-Edge-clause-bytes c =
     let five : c.encode.result.len ≡ 5 = spelled-length c.encode.result.bytes (spelling (Jmp 0)) c.encode.result.len (search rules) c.encode.ensures.spelled in
+    let none : c.args.layout.now.code + vec_len c.args.code.now + 5 ≡ c.args.layout.now.code + vec_len c.args.code.now + 0 + 5 = omega arith in
     let here : c.len.result ≡ vec_len c.args.code.now = search rules in
-    rw c.in-Edge.is (subst (λ (k : ℕ). OnOk c.put_op-in-Edge.result (c.put_op-in-Edge.new.code.items ≡ c.args.code.now.items ++ spelling (Jmp k))) (rw (c.target.ensures, five, here) refl) c.put_op-in-Edge.ensures.spelled)
+    rw c.in-Edge.is (subst (λ (k : ℕ). OnOk c.put_op-in-Edge.result (c.put_op-in-Edge.new.code.items ≡ c.args.code.now.items ++ spelling (Jmp k))) (rw (c.target.ensures, five, here) (ap (λ (k : ℕ). (entry_of c.args.layout.now.first c.args.layout.now.entries.now c.args.layout.now.code c.in-Edge.address + (2 ^ 32 - k)) % 2 ^ 32) none)) c.put_op-in-Edge.ensures.spelled)

@@ -1,14 +1,14 @@
-use Rattle.std.proofs.Common.{arith}
-use Rattle.std.proofs.lemmas.Grind.{common_steps}
-use Rattle.code_layout.proofs.LaidItems.{items-laid, items-of-word}
-use Rattle.code_layout.proofs.Short.{items-short}
+use Rattle.std.proofs.Common.{Some, None, subst}
+use Rattle.code_layout.specs.Decoded.{IsLegalDecoded}
+use Rattle.code_layout.proofs.LaidItems.{made-laid}
+use Rattle.code_layout.proofs.Short.{made-short}
 use Rattle.code_layout.proofs.code.word_items.Goals as goal
 
-pub returns-clause-laid : goal.returns-clause-laid
-returns-clause-laid c = grind (arith, common_steps, items-laid)
+pub returns-in-Some-clause-laid : goal.returns-in-Some-clause-laid
+returns-in-Some-clause-laid c = made-laid (Some c.in-Some.instr) c.args.at c.args.ends c.items_of.result (subst IsLegalDecoded c.in-Some.is c.requires) c.items_of.ensures.items
 
-pub returns-clause-items : goal.returns-clause-items
-returns-clause-items c = items-of-word c.args.word c.args.at c.args.ends c.instruction.result c.items_of.result c.instruction.ensures.spelled c.items_of.ensures.items
+pub returns-in-Some-clause-short : goal.returns-in-Some-clause-short
+returns-in-Some-clause-short c = made-short (Some c.in-Some.instr) c.args.at c.args.ends c.items_of.result (subst IsLegalDecoded c.in-Some.is c.requires) c.items_of.ensures.items
 
-pub returns-clause-short : goal.returns-clause-short
-returns-clause-short c = items-short c.instruction.result c.args.at c.args.ends c.items_of.result c.instruction.ensures.built c.items_of.ensures.items
+pub returns-in-None-clause-short : goal.returns-in-None-clause-short
+returns-in-None-clause-short c = made-short None c.args.at c.args.ends c.plain_items.result tt c.plain_items.ensures.items

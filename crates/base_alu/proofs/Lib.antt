@@ -1,0 +1,14 @@
+pub mod Families
+pub mod Sums
+pub mod CompareTiles
+pub mod ImmediateTiles
+pub mod ArithmeticTiles
+pub mod Rotates
+pub mod SignShifts
+pub mod LogicTiles
+pub mod MoveToCr
+pub mod Moves
+pub mod CrLogic
+pub mod Tiles
+pub mod FieldLoops
+pub mod Straight

@@ -1,0 +1,30 @@
+-- The tiles of moves from and to XER, LR and CTR (this project's own).
+use Rattle.std.specs.Prelude.{ℕ, ◌+◌, cond, eqb, List, [], ◌∷◌}
+use Rattle.ppc_isa.specs.Locations.{ca, so, ov, xc}
+use Rattle.ia_codec.specs.declared.op.AluOp.TheVariants.{Or, And}
+use Rattle.ia_codec.specs.declared.op.ShiftOp.TheVariants.{Shl, Shr}
+use Rattle.reg_map.specs.Registers.{eax, ecx}
+use Rattle.symbolic_tiles.specs.declared.symbolic_op.SymbolicOperand.TheVariants.{Temporary, Location}
+use Rattle.symbolic_tiles.specs.declared.symbolic_op.SymbolicOp.{SymbolicOp}
+use Rattle.symbolic_tiles.specs.declared.symbolic_op.SymbolicOp.TheVariants.{Mov, Put, Alu, AluImmediate, ShiftBy, FetchByte, PutByte}
+
+abbrev pub mfxer_ops : ℕ → List SymbolicOp
+mfxer_ops d =
+    FetchByte eax so ∷ ShiftBy Shl eax 1 ∷ FetchByte ecx ov ∷ Alu Or eax (Temporary ecx)
+    ∷ ShiftBy Shl eax 1 ∷ FetchByte ecx ca ∷ Alu Or eax (Temporary ecx)
+    ∷ ShiftBy Shl eax 29 ∷ FetchByte ecx xc ∷ Alu Or eax (Temporary ecx) ∷ Put d eax ∷ []
+
+-- by the number of the special register: XER is 1; LR is 8 and location 32, CTR 9 and 33
+abbrev pub mfspr_ops : ℕ → ℕ → List SymbolicOp
+mfspr_ops d spr = cond (eqb spr 1) (mfxer_ops d) (Mov eax (Location (24 + spr)) ∷ Put d eax ∷ [])
+
+abbrev pub mtxer_ops : ℕ → List SymbolicOp
+mtxer_ops s =
+    Mov eax (Location s)
+    ∷ Mov ecx (Temporary eax) ∷ ShiftBy Shr ecx 31 ∷ PutByte so ecx
+    ∷ Mov ecx (Temporary eax) ∷ ShiftBy Shr ecx 30 ∷ AluImmediate And ecx 1 ∷ PutByte ov ecx
+    ∷ Mov ecx (Temporary eax) ∷ ShiftBy Shr ecx 29 ∷ AluImmediate And ecx 1 ∷ PutByte ca ecx
+    ∷ AluImmediate And eax 127 ∷ PutByte xc eax ∷ []
+
+abbrev pub mtspr_ops : ℕ → ℕ → List SymbolicOp
+mtspr_ops s spr = cond (eqb spr 1) (mtxer_ops s) (Mov eax (Location s) ∷ Put (24 + spr) eax ∷ [])

@@ -1,0 +1,5 @@
+use Rattle.base_mem.proofs.Tiles.{tiles_are_tiles}
+use Rattle.base_mem.proofs.laws.tiles_are_tiles.Goals as goal
+
+pub returns : goal.returns
+returns c = tiles_are_tiles

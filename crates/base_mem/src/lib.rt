@@ -1,0 +1,16 @@
+//! The ops for each instruction with an access to memory.
+#![tactic(auto)]
+
+mod addresses;
+mod laws;
+mod loading;
+mod multiple;
+mod storing;
+#[cfg(test)]
+mod tests;
+mod tile;
+
+pub use laws::{
+    built_are_straight, tiles_are_placeable, tiles_are_short, tiles_are_tiles, tiles_do_rows,
+};
+pub use tile::{emit, is_built};

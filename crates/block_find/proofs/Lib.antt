@@ -1,0 +1,10 @@
+pub mod Reading
+pub mod Cutting
+pub mod Dividing
+pub mod Marking
+pub mod SingleWords
+pub mod LeaderSets
+pub mod Gathering
+pub mod SingleRuns
+pub mod Standing
+pub mod Counting

@@ -1,0 +1,4 @@
+pub mod Branches
+pub mod Blocks
+pub mod Marks
+pub mod Laws

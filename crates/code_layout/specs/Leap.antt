@@ -1,0 +1,12 @@
+-- The indirect sequence, by which bclr and bcctr go through the table (this project's own).
+use Rattle.std.specs.Prelude.{ℕ, ◌*◌, List, [], ◌∷◌}
+use Rattle.ia_codec.specs.declared.op.AluOp.TheVariants.{And, Sub, Cmp}
+use Rattle.ia_codec.specs.declared.op.Op.{Op}
+use Rattle.ia_codec.specs.declared.op.Op.TheVariants.{AluImm, MovTo}
+use Rattle.ia_codec.specs.declared.op.Operand.TheVariants.{Reg}
+use Rattle.reg_map.specs.Registers.{eax, ecx}
+
+-- its ops before its jumps: ecx, which has the target, without its two low bits; that less the first code word's address
+-- in eax, compared with the length of the code in bytes
+abbrev pub leap_ops : ℕ → ℕ → List Op
+leap_ops first count = AluImm And (Reg ecx) 0xFFFFFFFC ∷ MovTo (Reg eax) ecx ∷ AluImm Sub (Reg eax) first ∷ AluImm Cmp (Reg eax) (4 * count) ∷ []

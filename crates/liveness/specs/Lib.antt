@@ -1,0 +1,5 @@
+pub mod Live
+pub mod Flows
+pub mod Namers
+pub mod Growth
+pub mod Laws

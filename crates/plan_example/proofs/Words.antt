@@ -1,0 +1,29 @@
+-- The words of the program.
+use Rattle.std.proofs.Common.{◌≡◌, ℕ, ◌^◌, ◌<◌, ◌⊎◌, true, refl, arith}
+use Rattle.std.proofs.lemmas.Bool.Decides.{nat_tests}
+use Rattle.ppc_isa.specs.Legal.{IsLegal, IsWordOf}
+use Rattle.machines.specs.Memory.{code_of}
+use Rattle.machines.specs.Guest.{is_code_word}
+use Rattle.plan_example.specs.Example.{program, adds, back}
+
+pub legal_adds : (n : ℕ) → n < 2 ^ 16 → IsLegal (adds n)
+legal_adds n small = record { fit = (omega arith, (omega arith, (omega arith, (small, tt)))); allowed = tt }
+
+pub legal_back : IsLegal back
+legal_back = record { fit = (omega arith, (omega arith, (omega arith, (omega arith, tt)))); allowed = tt }
+
+pub word_1 : IsWordOf 0x38630001 (adds 1)
+word_1 = record { spelled = refl; legal = legal_adds 1 (omega arith) }
+
+pub word_2 : IsWordOf 0x38630002 (adds 2)
+word_2 = record { spelled = refl; legal = legal_adds 2 (omega arith) }
+
+pub word_3 : IsWordOf 0x38630003 (adds 3)
+word_3 = record { spelled = refl; legal = legal_adds 3 (omega arith) }
+
+pub word_4 : IsWordOf 0x4BFFFFF4 back
+word_4 = record { spelled = refl; legal = legal_back }
+
+-- a code word is one of the four
+pub which : (w : ℕ) → is_code_word (code_of program) w ≡ true → (w ≡ 0x10000) ⊎ (w ≡ 0x10004) ⊎ (w ≡ 0x10008) ⊎ (w ≡ 0x1000C)
+which w h = grind (arith, nat_tests)

@@ -1,0 +1,14 @@
+pub mod Perform
+pub mod Relocated
+pub mod Row
+pub mod Flow
+pub mod Straight
+pub mod Standing
+pub mod SymbolicOps
+pub mod SymbolicState
+pub mod Tiles
+pub mod Recording
+pub mod TileItems
+pub mod SymbolicExit
+pub mod Marks
+pub mod Laws

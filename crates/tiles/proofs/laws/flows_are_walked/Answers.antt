@@ -1,5 +1,0 @@
-use Rattle.tiles.proofs.Walked.{flows_are_walked}
-use Rattle.tiles.proofs.laws.flows_are_walked.Goals as goal
-
-pub returns : goal.returns
-returns c = flows_are_walked

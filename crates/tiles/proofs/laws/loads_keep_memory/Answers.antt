@@ -1,5 +1,0 @@
-use Rattle.tiles.proofs.Frames.{loads_keep_memory}
-use Rattle.tiles.proofs.laws.loads_keep_memory.Goals as goal
-
-pub returns : goal.returns
-returns c = loads_keep_memory

@@ -1,6 +1,0 @@
-pub mod Perform
-pub mod Relocated
-pub mod Row
-pub mod Flow
-pub mod Standing
-pub mod Laws
