@@ -27,8 +27,7 @@ same n = grind arith
 others : (n : List ℕ) (ms : List (List ℕ)) → IsTrue (is_other (number n) ms) → AllByRecursion (λ m. m ≢ n) ms
 others n [] h = tt
 others n (m ∷ ms) h =
-    let s = both (not (number m == number n)) (is_other (number n) ms) h in
-    (
+    let s = both (not (number m == number n)) (is_other (number n) ms) h in (
       λ e.
           let f = not-true (number m == number n) s.0 in
           let t : (number m == number n) ≡ true = ap (λ w. number w == number n) e ∙ same (number n) in

@@ -9,3 +9,4 @@ pub mod WordFields
 pub mod ClauseWords
 pub mod Growing
 pub mod Ends
+pub mod Arrays

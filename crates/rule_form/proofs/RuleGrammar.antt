@@ -192,12 +192,18 @@ fit-take gs (Some c) h = elim h.1 [ inl k ↦ (let l = k.1 in omega (arith, l)) 
 fit-opened : (r : RuleText) → IsWritten r → AllByRecursion IsItem (opened r)
 fit-opened r h =
     let t = h.template in
-    let p = t.placed in
-    (tt, all-append IsItem (map GuestLine r.template.guests) (At r.template.slots ∷ Dead r.template.dead ∷ (map Host r.lines ++ (Take r.take ∷ map Clause r.clauses)))
-    (fit-guests r.template.guests p.window p.is.words)
-    (few-slots r.template.guests r.template.slots p, (t.names,
-    all-append IsItem (map Host r.lines) (Take r.take ∷ map Clause r.clauses) (fit-hosts r.template r.lines h.template h.lines.each)
-    (fit-take r.template.guests r.take h.taken, fit-clauses r.clauses h.clauses))))
+    let p = t.placed in (
+      tt,
+      all-append IsItem (map GuestLine r.template.guests) (At r.template.slots ∷ Dead r.template.dead ∷ (map Host r.lines ++ (Take r.take ∷ map Clause r.clauses)))
+          (fit-guests r.template.guests p.window p.is.words) (
+            few-slots r.template.guests r.template.slots p,
+            (
+              t.names,
+              all-append IsItem (map Host r.lines) (Take r.take ∷ map Clause r.clauses) (fit-hosts r.template r.lines h.template h.lines.each)
+                  (fit-take r.template.guests r.take h.taken, fit-clauses r.clauses h.clauses),
+            ),
+          ),
+    )
 
 fit-rules : (done : List RuleText) → AllByRecursion IsWritten done → AllByRecursion IsItem (flat_map whole done)
 fit-rules [] h = tt
@@ -212,9 +218,11 @@ fits (InDead done gs a) h =
     (tt, all-append IsItem (map GuestLine gs) (At a ∷ []) (fit-guests gs h.1.window h.1.is.words) (few-slots gs a h.1, tt))
 fits (InHosts done t hs) h =
     let p = h.1.placed in
-    all-append IsItem (items_of done) (Open ∷ (map GuestLine t.guests ++ (At t.slots ∷ Dead t.dead ∷ map Host hs))) (tt, fit-rules done h.0.1)
-    (tt, all-append IsItem (map GuestLine t.guests) (At t.slots ∷ Dead t.dead ∷ map Host hs) (fit-guests t.guests p.window p.is.words)
-    (few-slots t.guests t.slots p, (h.1.names, fit-hosts t hs h.1 h.2.each)))
+    all-append IsItem (items_of done) (Open ∷ (map GuestLine t.guests ++ (At t.slots ∷ Dead t.dead ∷ map Host hs))) (tt, fit-rules done h.0.1) (
+      tt,
+      all-append IsItem (map GuestLine t.guests) (At t.slots ∷ Dead t.dead ∷ map Host hs) (fit-guests t.guests p.window p.is.words)
+          (few-slots t.guests t.slots p, (h.1.names, fit-hosts t hs h.1 h.2.each)),
+    )
 fits (InClauses done r) h = all-append IsItem (items_of done) (opened r) (tt, fit-rules done h.0.1) (fit-opened r h.1)
 
 -- Each good state can be closed.
@@ -266,7 +274,7 @@ goes-on done r front back room h is = (
   (
     back ++ End ∷ [],
     items-append done r ∙ ap (λ l. items_of done ++ (l ++ End ∷ [])) is ∙ ap (λ l. items_of done ++ l) (append_assoc front back (End ∷ []))
-    ∙ sym (append_assoc (items_of done) front (back ++ End ∷ [])),
+        ∙ sym (append_assoc (items_of done) front (back ++ End ∷ [])),
   ),
 )
 

@@ -48,6 +48,13 @@ pub record RuleText : Type 0 where
 abbrev pub written : Rule → RuleText
 written rule = record { template = template_of rule.goal; lines = lines_of rule.body; take = rule.body.take; clauses = rule.log.clauses }
 
+-- the arrays are as long as their types say
+pub record HasRoom (rule : Rule) : Type 0 where
+  pub words : length rule.goal.words ≡ 3
+  pub free : length rule.goal.free ≡ 3
+  pub slots : length rule.goal.slots ≡ 6
+  pub lines : length rule.body.lines ≡ 4
+
 -- the lists are those of a rule
 pub record IsWritten (r : RuleText) : Type 0 where
   pub template : IsTemplate r.template

@@ -3,6 +3,7 @@
 
 mod fault;
 mod fields;
+mod laws;
 mod line;
 mod literals;
 mod names;
@@ -16,8 +17,7 @@ mod window;
 mod writing;
 
 pub use fault::TextFault;
+pub use laws::{one_line, one_list, one_rule};
 pub use parsing::parse;
 pub use printing::print;
-pub use rule_body::{
-    Body, DeadSet, Goal, Guest, Hole, HostLine, Rule, allowed, body_cost,
-};
+pub use rule_body::{Body, DeadSet, Goal, Guest, Hole, HostLine, Rule, allowed, body_cost};

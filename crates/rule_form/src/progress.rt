@@ -13,7 +13,9 @@ use crate::fields::Slots;
 use crate::line::Line;
 use crate::window::{with_dead, with_guest, with_slots};
 use ia_codec::Op;
-use rule_body::{Body, DeadSet, Goal, Guest, HostLine, Rule, access_count, accesses, fits, take_fits};
+use rule_body::{
+    Body, DeadSet, Goal, Guest, HostLine, Rule, access_count, accesses, fits, take_fits,
+};
 use std::alloc::{AllocError, Global};
 use word_kit::{Clause, Clauses, Refutation};
 
@@ -145,7 +147,13 @@ fn add_host(rules: Vec<Rule>, goal: Goal, body: Body, line: HostLine) -> Option<
     Some(Progress::Hosts(rules, goal, body))
 }
 
-fn add_take(alloc: Global, rules: Vec<Rule>, goal: Goal, body: Body, take: Option<u8>) -> Option<Progress>
+fn add_take(
+    alloc: Global,
+    rules: Vec<Rule>,
+    goal: Goal,
+    body: Body,
+    take: Option<u8>,
+) -> Option<Progress>
     requires reached { IsReached (Progress.Hosts rules goal body) }
     requires good { IsGood (state_of (Progress.Hosts rules goal body)) }
     ensures { MatchOption result
@@ -178,7 +186,12 @@ fn add_clause(
     Ok(Some(Progress::Clauses(rules, goal, body, clauses)))
 }
 
-fn close(rules: Vec<Rule>, goal: Goal, body: Body, clauses: Vec<Clause>) -> Result<Option<Progress>, AllocError>
+fn close(
+    rules: Vec<Rule>,
+    goal: Goal,
+    body: Body,
+    clauses: Vec<Clause>,
+) -> Result<Option<Progress>, AllocError>
     requires reached { IsReached (Progress.Clauses rules goal body clauses) }
     requires good { IsGood (state_of (Progress.Clauses rules goal body clauses)) }
     ensures { IfOk result (λ o. MatchOption o
@@ -194,7 +207,11 @@ fn close(rules: Vec<Rule>, goal: Goal, body: Body, clauses: Vec<Clause>) -> Resu
 }
 
 /// What is known after one more line, or None where no text goes on with it.
-pub fn advance(alloc: Global, progress: Progress, line: Line) -> Result<Option<Progress>, AllocError>
+pub fn advance(
+    alloc: Global,
+    progress: Progress,
+    line: Line,
+) -> Result<Option<Progress>, AllocError>
     requires reached { IsReached progress }
     requires good { IsGood (state_of progress) }
     requires line { IsLine line }
@@ -209,12 +226,18 @@ pub fn advance(alloc: Global, progress: Progress, line: Line) -> Result<Option<P
         (Progress::Guests(rules, goal), Line::Guest(guest)) => Ok(add_guest(rules, goal, guest)),
         (Progress::Guests(rules, goal), Line::At(slots)) => Ok(add_slots(rules, goal, slots)),
         (Progress::Dead(rules, goal), Line::Dead(bits)) => Ok(add_dead(rules, goal, bits)),
-        (Progress::Hosts(rules, goal, body), Line::Host(line)) => Ok(add_host(rules, goal, body, line)),
-        (Progress::Hosts(rules, goal, body), Line::Take(take)) => Ok(add_take(alloc, rules, goal, body, take)),
+        (Progress::Hosts(rules, goal, body), Line::Host(line)) => Ok(add_host(
+            rules, goal, body, line,
+        )),
+        (Progress::Hosts(rules, goal, body), Line::Take(take)) => Ok(add_take(
+            alloc, rules, goal, body, take,
+        )),
         (Progress::Clauses(rules, goal, body, clauses), Line::Clause(literals)) => {
             add_clause(rules, goal, body, clauses, literals)
         }
-        (Progress::Clauses(rules, goal, body, clauses), Line::End) => close(rules, goal, body, clauses),
+        (Progress::Clauses(rules, goal, body, clauses), Line::End) => close(
+            rules, goal, body, clauses,
+        ),
         _ => Ok(None),
     }
 }

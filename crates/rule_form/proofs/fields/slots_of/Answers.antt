@@ -8,9 +8,9 @@ returns-in_default c = λ s h e.
 
 pub loop-i-preserved : goal.loop-i-preserved
 loop-i-preserved c =
-  let few : c.loop-i.i < length c.loop-i.slots = omega (arith, c.loop-i.invariant.size, c.if-word-gt6.false, c.loop-i-test.true) in
-  record {
-  letters = letter-more c.loop-i.slots c.args.word.now c.loop-i.i c.in-Some.slot few c.loop-i-test.true c.loop-i.invariant.letters c.in-Some.ensures;
-  clear = clear-more c.loop-i.slots c.loop-i.i c.in-Some.slot few c.loop-i.invariant.clear;
-  size = length-slice_set c.loop-i.slots c.loop-i.i c.in-Some.slot few ∙ c.loop-i.invariant.size;
-}
+    let few : c.loop-i.i < length c.loop-i.slots = omega (arith, c.loop-i.invariant.size, c.if-word-gt6.false, c.loop-i-test.true) in
+    record {
+      letters = letter-more c.loop-i.slots c.args.word.now c.loop-i.i c.in-Some.slot few c.loop-i-test.true c.loop-i.invariant.letters c.in-Some.ensures;
+      clear = clear-more c.loop-i.slots c.loop-i.i c.in-Some.slot few c.loop-i.invariant.clear;
+      size = length-slice_set c.loop-i.slots c.loop-i.i c.in-Some.slot few ∙ c.loop-i.invariant.size;
+    }

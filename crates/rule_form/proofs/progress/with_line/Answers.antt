@@ -11,8 +11,7 @@ returns c =
     let b = c.args.body in
     let t = template_of c.args.goal.now in
     let n = length-take b.count b.lines (omega (arith, c.if-body-ge4.false)) in
-    let grown = take-set b.lines b.count c.args.line (omega (arith, c.if-body-ge4.false)) in
-    (
+    let grown = take-set b.lines b.count c.args.line (omega (arith, c.if-body-ge4.false)) in (
       record {
         count = omega (arith, c.if-body-ge4.false);
         lines = subst (AreHostLines t) (sym grown) (hosts-more t (lines_of b) c.args.line c.requires.body.lines (omega (arith, n, c.if-body-ge4.false)) (c.fits.ensures.0 c.if-not-fits.false)

@@ -46,8 +46,7 @@ returns c =
     let straight = straight-so-far gs v c.requires.is.words (λ b. false≢true (sym c.if-is_ended.false ∙ c.is_ended.ensures.1 b)) in
     let access = access-fits v i c.requires.is.one_access (λ one some. false≢true (sym c.if-is_second.false ∙ c.is_second.ensures.1 (one, counted-accesses gs v c.requires.is.words (omega (arith, n, c.requires.count)) some))) in
     let more = window-more gs v c.args.guest i c.requires.is (record { word = c.in-Some.ensures.found; row = sym c.may_stand.ensures ∙ c.if-not-may_stand.false }) (omega (arith, n, c.if-goal-ge3.false)) straight access
-        (subst (λ k. AreNumbered k (numbers i)) c.requires.parameters c.in-Some-parameters_after.ensures.0) in
-    (
+    (subst (λ k. AreNumbered k (numbers i)) c.requires.parameters c.in-Some-parameters_after.ensures.0) in (
       record {
         count = omega (arith, a.count, c.if-goal-ge3.false);
         words = subst (AllByRecursion (λ w. w ≡ 0)) (sym (ap (λ k. drop k c.appended.result.words) a.count ∙ ap (drop (c.args.goal.count + 1)) a.words)) (clear-set (λ w. w ≡ 0) c.args.goal.words c.args.goal.count c.args.guest.word (omega (arith, c.if-goal-ge3.false)) c.requires.words);
