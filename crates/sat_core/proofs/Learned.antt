@@ -1,7 +1,8 @@
 -- Steps that are learned one after the other.
 use Rattle.std.proofs.Common.{◌≡◌, ◌⊎◌, inl, inr, ℕ, ◌<◌, ◌≤◌, List, [], ◌∷◌, ◌++◌, ℤ, neg_ℤ, length, take, get_or, refl, sym, subst, ap, ◌∙◌, arith, length-append}
-use Rattle.std.specs.List.{Contains}
-use Rattle.std.proofs.lemmas.List.Elements.{Contains-get_or, Contains-append_right}
+use Rattle.std.specs.List.{All, Contains}
+use Rattle.word_kit.specs.Formulas.{IsLiteral, AreClauses}
+use Rattle.std.proofs.lemmas.List.Elements.{Contains-get_or, Contains-append_right, All-push}
 use Rattle.std.proofs.lemmas.List.{take-append-le}
 use Rattle.std.proofs.Math.ListN.{get_or-append}
 use Rattle.std.proofs.Math.IntN.{neg_ℤ-neg_ℤ}
@@ -74,10 +75,11 @@ learned-more formula steps clause h lesson = record { lessons = lessons; differe
 
 -- the empty clause ends a refutation
 pub refuted-end : (formula steps : List (List ℤ)) (limit : ℕ) → AreLearned formula steps → length steps ≤ limit → HasConflict (formula ++ steps) []
-    → IsRefuted formula limit (steps ++ [] ∷ [])
-refuted-end formula steps limit h within conflict = record {
+    → AreClauses steps → IsRefuted formula limit (steps ++ [] ∷ [])
+refuted-end formula steps limit h within conflict literals = record {
   refutation = record { follow = follow; ends = (steps, refl) };
   learned = (steps, refl, within, h);
+  literals = All-push (All IsLiteral) steps [] literals (λ k d inside. absurd (omega (arith, inside)));
 }
   where
     follow : StepsFollow formula (steps ++ [] ∷ [])

@@ -1,8 +1,15 @@
 //! In which order variables are decided, and which value is tried first. No promise rests on it.
 use std::alloc::Global;
+use watched_literals::Propagator;
 use word_kit::NoMemory;
 
-/// The literal of a variable that is decided first, and how often the variable was seen in conflicts of late.
+/// What a conflict adds to the score of each variable that it was found by.
+const BUMP: u64 = 1 << 20;
+
+/// How many clauses are learned before older conflicts count half.
+const DECAY_INTERVAL: usize = 8;
+
+/// The literal of a variable that is decided first, and how much the variable was seen in conflicts of late.
 #[derive(Clone, Copy)]
 struct Preference {
     score: u64,
@@ -13,6 +20,7 @@ struct Preference {
 #[derive(Drop)]
 pub struct Order {
     preferences: Vec<Preference>,
+    learned: usize,
 }
 
 impl Order {
@@ -24,7 +32,10 @@ impl Order {
             literal = literal.wrapping_sub(1);
             preferences.push(Preference { score: 0, literal })?;
         }
-        Ok(Order { preferences })
+        Ok(Order {
+            preferences,
+            learned: 0,
+        })
     }
 
     /// The literals that are decided one after the other: those of the highest scores first.
@@ -38,11 +49,15 @@ impl Order {
         Ok(literals)
     }
 
+    fn preference(&mut self, literal: i32) -> Option<&mut Preference> {
+        let index = (literal.unsigned_abs() as usize).wrapping_sub(1);
+        self.preferences.get_mut(index)
+    }
+
     /// The variable was seen in a conflict.
     pub fn bump(&mut self, literal: i32) {
-        let index = (literal.unsigned_abs() as usize).wrapping_sub(1);
-        if let Some(preference) = self.preferences.get_mut(index) {
-            preference.score = preference.score.saturating_add(1);
+        if let Some(preference) = self.preference(literal) {
+            preference.score = preference.score.saturating_add(BUMP);
         }
     }
 
@@ -51,18 +66,25 @@ impl Order {
         for literal in clause {
             self.bump(*literal);
         }
+        self.learned = self.learned.saturating_add(1);
+        if self.learned % DECAY_INTERVAL == 0 {
+            self.decay();
+        }
     }
 
-    /// The literal is tried before its opposite.
-    pub fn prefer(&mut self, literal: i32) {
-        let index = (literal.unsigned_abs() as usize).wrapping_sub(1);
-        if let Some(preference) = self.preferences.get_mut(index) {
-            preference.literal = literal;
+    /// The values that variables have now are tried first, where they were not settled at the root.
+    pub fn keep_values(&mut self, propagator: &Propagator, root: usize) {
+        for place in root..propagator.len() {
+            if let Some(literal) = propagator.literal(place) {
+                if let Some(preference) = self.preference(literal) {
+                    preference.literal = literal;
+                }
+            }
         }
     }
 
     /// Older conflicts count half.
-    pub fn fade(&mut self) {
+    fn decay(&mut self) {
         for preference in self.preferences.iter_mut() {
             preference.score /= 2;
         }

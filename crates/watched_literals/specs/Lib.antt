@@ -1,0 +1,4 @@
+pub mod Literals
+pub mod Watches
+pub mod Propagators
+pub mod Numbers
