@@ -3,7 +3,7 @@ use Rattle.std.proofs.Common.{◌≡◌, ℕ, ◌<◌, List, [], ◌++◌, ℤ, 
 use Rattle.std.specs.Option.{MatchOption}
 use Rattle.std.proofs.lemmas.List.{map-append, take-map, length-map}
 use Rattle.std.proofs.Math.ListN.{get_or-map}
-use Rattle.unit_propagation.specs.Propagation.{Follows}
+use Rattle.watched_literals.specs.Propagation.{Follows}
 use Rattle.watched_literals.specs.Numbers.{AreNames, behind}
 use Rattle.watched_literals.proofs.Numbers.{behind-keeps, behind-apart}
 use Rattle.watched_literals.proofs.Renaming.{follows-numbered, follows-from}

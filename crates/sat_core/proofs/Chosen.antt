@@ -1,7 +1,7 @@
 -- What a decision leads to.
 use Rattle.std.proofs.Common.{◌≡◌, ◌⊎◌, inl, inr, ℕ, ◌<◌, ◌≤◌, ◌+◌, true, false, List, [], ◌∷◌, ◌++◌, ℤ, pos, neg_ℤ, length, take, get_or, refl, sym, subst, ap, ◌∙◌, arith, append-nil, Option, None, Some, min}
 use Rattle.std.specs.Option.{is_some}
-use Rattle.std.proofs.lemmas.Bool.{false≢true}
+use Rattle.std.proofs.lemmas.Bool.{cases_lt, false≢true}
 use Rattle.std.proofs.lemmas.List.{take_more, take_all}
 use Rattle.std.specs.List.{Contains}
 use Rattle.std.proofs.lemmas.List.Elements.{Contains-append_left, Contains-push, Contains-push_cases}
@@ -9,11 +9,10 @@ use Rattle.std.proofs.Math.IntN.{neg_ℤ-neg_ℤ}
 use Rattle.word_kit.specs.Formulas.{IsLiteral}
 use Rattle.watched_literals.specs.Literals.{IsWithin}
 use Rattle.watched_literals.specs.Propagators.{Spreads}
-use Rattle.unit_propagation.specs.Propagation.{IsMadeTrue, HasConflict, without}
-use Rattle.unit_propagation.specs.Propagation.IsMadeTrue.{opposite}
-use Rattle.unit_propagation.specs.Trails.{AreMadeTrue, IsConsistent, Extends}
-use Rattle.unit_propagation.proofs.Indexes.{nat-order}
-use Rattle.unit_propagation.proofs.Trails.{Contains-cons, Contains-nil, made-more, closed, no-conflict, consistent-push, extends-on}
+use Rattle.watched_literals.specs.Propagation.{IsMadeTrue, HasConflict, without}
+use Rattle.watched_literals.specs.Propagation.IsMadeTrue.{opposite}
+use Rattle.watched_literals.specs.Trails.{AreMadeTrue, IsConsistent, Extends}
+use Rattle.watched_literals.proofs.Trails.{Contains-cons, Contains-nil, made-more, closed, no-conflict, consistent-push, extends-on}
 use Rattle.sat_core.specs.Decisions.{IsClosedUnder, IsGained, IsAssigned, IsLiteralOf, IsVariable, Leads}
 use Rattle.sat_core.proofs.Without.{AreWithin, from-without, conflict-within}
 
@@ -153,7 +152,7 @@ literals-all room numbers n low x m = (subst (λ xs. Contains xs x) (sym (take_a
 
 pub variable-split : (room n : ℕ) (literal : ℤ) → literal ≡ pos (n + 1) → IsWithin room literal
     → (x : ℤ) → IsVariable (n + 1) x → IsVariable n x ⊎ IsLiteralOf room (literal ∷ []) x
-variable-split room n literal is within x m = elim (nat-order m.0 (n + 1)) [
+variable-split room n literal is within x m = elim (cases_lt m.0 (n + 1)) [
   | inl less ↦ inl (m.0, m.1, m.2, omega (arith, less), m.4)
   | inr past ↦
       let at : n + 1 ≡ m.0 = omega (arith, past, m.3) in

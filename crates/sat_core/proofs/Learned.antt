@@ -1,5 +1,6 @@
 -- Steps that are learned one after the other.
 use Rattle.std.proofs.Common.{◌≡◌, ◌⊎◌, inl, inr, ℕ, ◌<◌, ◌≤◌, List, [], ◌∷◌, ◌++◌, ℤ, neg_ℤ, length, take, get_or, refl, sym, subst, ap, ◌∙◌, arith, length-append}
+use Rattle.std.proofs.lemmas.Bool.{cases_lt}
 use Rattle.std.specs.List.{All, Contains}
 use Rattle.word_kit.specs.Formulas.{IsLiteral, AreClauses}
 use Rattle.std.proofs.lemmas.List.Elements.{Contains-get_or, Contains-append_right, All-push}
@@ -7,9 +8,8 @@ use Rattle.std.proofs.lemmas.List.{take-append-le}
 use Rattle.std.proofs.Math.ListN.{get_or-append}
 use Rattle.std.proofs.Math.IntN.{neg_ℤ-neg_ℤ}
 use Rattle.std.proofs.Math.Seq.{get_or-append_seam, take-append_seam}
-use Rattle.unit_propagation.specs.Propagation.{HasConflict, Follows, without}
-use Rattle.unit_propagation.specs.Propagation.IsMadeTrue.{opposite, unit}
-use Rattle.unit_propagation.proofs.Indexes.{nat-order}
+use Rattle.watched_literals.specs.Propagation.{HasConflict, Follows, without}
+use Rattle.watched_literals.specs.Propagation.IsMadeTrue.{opposite, unit}
 use Rattle.refute_check.specs.Refutations.{StepsFollow}
 use Rattle.sat_core.specs.Lessons.{IsLesson, AreLessons, AreSame, AreDifferent}
 use Rattle.sat_core.specs.Verdicts.{AreLearned, IsRefuted}
@@ -31,7 +31,7 @@ not-known clauses known clause inside h same =
 
 at-place : (steps : List (List ℤ)) (clause : List ℤ) (place : ℕ) → place < length (steps ++ clause ∷ [])
     → (place < length steps) ⊎ (place ≡ length steps)
-at-place steps clause place within = elim (nat-order place (length steps)) [
+at-place steps clause place within = elim (cases_lt place (length steps)) [
   | inl less ↦ inl less
   | inr past ↦ inr (omega (arith, within, length-append steps (clause ∷ [])))
 ]

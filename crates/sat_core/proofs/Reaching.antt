@@ -4,7 +4,7 @@ use Rattle.std.specs.Option.{is_some}
 use Rattle.std.proofs.lemmas.Bool.{false≢true}
 use Rattle.std.specs.List.{All}
 use Rattle.std.proofs.Math.IntN.{neg_ℤ-neg_ℤ}
-use Rattle.unit_propagation.proofs.Trails.{neg-literal, Contains-nil}
+use Rattle.watched_literals.proofs.Trails.{neg-literal, Contains-nil}
 use Rattle.watched_literals.specs.Literals.{code, IsWithin}
 use Rattle.watched_literals.specs.Propagators.{IsReady, IsAbove}
 use Rattle.word_kit.specs.Formulas.{IsFormula, AreClauses}

@@ -6,8 +6,8 @@ use Rattle.std.specs.Bool.{Decides}
 use Rattle.std.proofs.lemmas.Bool.{false≢true}
 use Rattle.std.proofs.lemmas.List.Elements.{Contains-push_cases}
 use Rattle.std.proofs.Math.Seq.{take-length}
-use Rattle.unit_propagation.specs.Propagation.{HasConflict, IsTautology, Follows, IsTight, without}
-use Rattle.unit_propagation.proofs.Trails.{Contains-nil, made-more, same_or_not}
+use Rattle.watched_literals.specs.Propagation.{HasConflict, IsTautology, Follows, IsTight, without}
+use Rattle.watched_literals.proofs.Trails.{Contains-nil, made-more, same_or_not}
 use Rattle.sat_core.specs.Decisions.{IsGained}
 use Rattle.sat_core.specs.Lessons.{IsLesson}
 use Rattle.sat_core.proofs.Without.{AreWithin, from-without, to-without, without-within, without-more, tautology-more, conflict-within, follows-within}

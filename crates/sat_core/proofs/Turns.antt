@@ -4,8 +4,8 @@ use Rattle.std.specs.List.{All}
 use Rattle.std.proofs.lemmas.List.Elements.{All-push}
 use Rattle.std.proofs.Math.Seq.{take-append_seam}
 use Rattle.word_kit.specs.Formulas.{IsLiteral, AreClauses}
-use Rattle.unit_propagation.specs.Propagation.{HasConflict}
-use Rattle.unit_propagation.proofs.Trails.{Contains-nil}
+use Rattle.watched_literals.specs.Propagation.{HasConflict}
+use Rattle.watched_literals.proofs.Trails.{Contains-nil}
 use Rattle.watched_literals.specs.declared.propagator.Propagator.{Propagator}
 use Rattle.watched_literals.specs.Literals.{IsWithin}
 use Rattle.watched_literals.specs.Propagators.{IsOpen, IsReady, IsAbove, IsComplete}

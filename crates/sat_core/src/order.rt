@@ -7,7 +7,7 @@ use word_kit::NoMemory;
 const BUMP: u64 = 1 << 20;
 
 /// How many clauses are learned before older conflicts count half.
-const DECAY_INTERVAL: usize = 8;
+const DECAY_INTERVAL: usize = 16;
 
 /// The literal of a variable that is decided first, and how much the variable was seen in conflicts of late.
 #[derive(Clone, Copy)]

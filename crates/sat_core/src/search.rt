@@ -6,7 +6,7 @@ ghost use Rattle.sat_core.specs.Searching.{IsSearching, IsStart, Reaches};
 
 use crate::order::Order;
 use std::alloc::Global;
-use unit_propagation::opposite;
+use watched_literals::opposite;
 use watched_literals::Propagator;
 use word_kit::{Clause, Formula, NoMemory};
 

@@ -13,7 +13,7 @@ use crate::values::values;
 use crate::{Values, Verdict};
 use std::alloc::Global;
 use std::mem;
-use unit_propagation::opposite;
+use watched_literals::opposite;
 use word_kit::{Clause, Clauses, Formula, NoMemory, Refutation};
 
 /// What one search comes to.

@@ -7,11 +7,11 @@ use Rattle.std.proofs.lemmas.List.Elements.{All-contains, Contains-append_left, 
 use Rattle.std.proofs.lemmas.List.{length-set, get_or_past, get_or_append_left}
 use Rattle.std.proofs.Math.Seq.{take-append_seam, get_or-append_seam}
 use Rattle.word_kit.specs.Formulas.{IsLiteral}
-use Rattle.unit_propagation.specs.Propagation.{IsMadeTrue, HasConflict, Follows}
-use Rattle.unit_propagation.specs.Propagation.IsMadeTrue.{unit}
-use Rattle.unit_propagation.specs.Trails.{AreMadeTrue, IsConsistent, IsUnit, IsFalse, AllSettled, Extends, IsDenied, Denies}
-use Rattle.unit_propagation.proofs.Trails.{Contains-nil, Contains-take, consistent-push, extends-on, made-more, conflict-more, not-following}
-use Rattle.unit_propagation.proofs.Roots.{cut-back}
+use Rattle.watched_literals.specs.Propagation.{IsMadeTrue, HasConflict, Follows}
+use Rattle.watched_literals.specs.Propagation.IsMadeTrue.{unit}
+use Rattle.watched_literals.specs.Trails.{AreMadeTrue, IsConsistent, IsUnit, IsFalse, AllSettled, Extends, IsDenied, Denies}
+use Rattle.watched_literals.proofs.Trails.{Contains-nil, Contains-take, consistent-push, extends-on, made-more, conflict-more, not-following}
+use Rattle.watched_literals.proofs.Trails.{cut-back}
 use Rattle.watched_literals.specs.declared.watches.Pair.{Pair}
 use Rattle.watched_literals.specs.Literals.{code, IsWithin}
 use Rattle.watched_literals.specs.Watches.{IsWatch, no_pair, IsPair, IsStore, IsFree, IsTrueIn, AllWatched, AreAmong, Propagates}

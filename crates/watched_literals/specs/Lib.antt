@@ -1,3 +1,5 @@
+pub mod Propagation
+pub mod Trails
 pub mod Literals
 pub mod Watches
 pub mod Propagators

@@ -1,8 +1,8 @@
 -- All that is kept of known clauses, and what trying a clause tells.
 use Rattle.std.specs.Prelude.{◌≡◌, ◌≢◌, ◌⊎◌, [], ℕ, Bool, true, false, cond, List, ℤ, pos, neg_ℤ}
 use Rattle.std.specs.List.{Contains}
-use Rattle.unit_propagation.specs.Propagation.{HasConflict, Follows}
-use Rattle.unit_propagation.specs.Trails.{AreMadeTrue, IsConsistent, Extends, IsUnit, IsFalse, AllSettled, Refutes}
+use Rattle.watched_literals.specs.Propagation.{HasConflict, Follows}
+use Rattle.watched_literals.specs.Trails.{AreMadeTrue, IsConsistent, Extends, IsUnit, IsFalse, AllSettled, Refutes}
 use Rattle.watched_literals.specs.declared.watches.Pair.{Pair}
 use Rattle.watched_literals.specs.declared.standing.Standing.{Standing}
 use Rattle.watched_literals.specs.declared.standing.Standing.TheVariants as standing

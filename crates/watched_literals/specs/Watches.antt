@@ -1,8 +1,8 @@
 -- Two watched literals a clause, and how clauses stand.
 use Rattle.std.specs.Prelude.{◌≡◌, ◌≢◌, ◌⊎◌, ◌<◌, ◌≤◌, ◌+◌, ◌++◌, ◌∷◌, [], ℕ, Bool, true, false, List, ℤ, pos, neg_ℤ, length, slice_index_or}
 use Rattle.std.specs.List.{All, Contains}
-use Rattle.unit_propagation.specs.Propagation.{HasConflict}
-use Rattle.unit_propagation.specs.Trails.{AreMadeTrue, IsConsistent, Extends, unset}
+use Rattle.watched_literals.specs.Propagation.{HasConflict}
+use Rattle.watched_literals.specs.Trails.{AreMadeTrue, IsConsistent, Extends, unset}
 use Rattle.watched_literals.specs.Literals.{code, IsWithin}
 use Rattle.watched_literals.specs.declared.watches.Pair.{Pair}
 

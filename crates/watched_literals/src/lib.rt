@@ -10,3 +10,4 @@ mod watches;
 
 pub use numbering::Numbering;
 pub use propagator::Propagator;
+pub use trail::opposite;

@@ -4,18 +4,17 @@ ghost use Rattle.std.specs.Bool.{Decides};
 ghost use Rattle.std.specs.List.{All, Contains, list_any};
 ghost use Rattle.std.specs.Ordering.{int_eq};
 ghost use Rattle.word_kit.specs.Formulas.{IsLiteral};
-ghost use Rattle.unit_propagation.specs.Propagation.{Follows};
-ghost use Rattle.unit_propagation.specs.Trails.{Denies};
+ghost use Rattle.watched_literals.specs.Propagation.{Follows};
+ghost use Rattle.watched_literals.specs.Trails.{Denies};
 ghost use Rattle.watched_literals.specs.Literals.{IsWithin, AreReasoned};
 ghost use Rattle.watched_literals.specs.Watches.{IsStore, IsPair, AllWatched};
 ghost use Rattle.watched_literals.specs.Propagators.{IsReady, IsTried, IsAbove, IsComplete, Spreads};
 
 use crate::lists::WatchList;
 use crate::standing::{Standing, standing_of};
-use crate::trail::{Trail, code};
+use crate::trail::{Trail, code, opposite};
 use crate::watches::{Pair, Watches, list};
 use std::alloc::Global;
-use unit_propagation::opposite;
 use word_kit::{Clause, NoMemory};
 
 /// Known clauses that are watched, the literals that the known clauses make true by unit propagation, and whether a known
@@ -186,14 +185,14 @@ impl Propagator {
         if self.refuted {
             return Ok(true);
         }
-        let count = self.trail.len();
+        let root = self.trail.len();
         let follows = attempt(
             self.clauses.as_slice(),
             &mut self.watches,
             &mut self.trail,
             clause,
         )?;
-        self.trail.truncate(count);
+        self.trail.truncate(root);
         Ok(follows)
     }
 

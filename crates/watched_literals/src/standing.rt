@@ -4,8 +4,7 @@ ghost use Rattle.std.specs.List.{All};
 ghost use Rattle.watched_literals.specs.Literals.{IsWithin};
 ghost use Rattle.watched_literals.specs.Propagators.{Stands};
 
-use crate::trail::Trail;
-use unit_propagation::opposite;
+use crate::trail::{Trail, opposite};
 
 /// How a clause stands.
 #[derive(Clone, Copy)]

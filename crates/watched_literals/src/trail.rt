@@ -1,5 +1,5 @@
 //! Literals that are true, in the order in which they were made true.
-ghost use Rattle.std.specs.Prelude.{◌≡◌, ◌<◌, ◌≤◌, ◌-◌, ◌++◌, ◌∷◌, [], None, false, pos, length, take, slice_index_or, IfOk, OnOk};
+ghost use Rattle.std.specs.Prelude.{◌≡◌, ◌<◌, ◌≤◌, ◌-◌, ◌++◌, ◌∷◌, [], None, false, pos, neg_ℤ, length, take, slice_index_or, IfOk, OnOk};
 ghost use Rattle.std.specs.List.{list_any};
 ghost use Rattle.std.specs.Ordering.{int_eq};
 ghost use Rattle.word_kit.specs.Formulas.{IsLiteral};
@@ -8,6 +8,14 @@ ghost use Rattle.watched_literals.specs.Literals.{code, IsWithin};
 use std::alloc::Global;
 use std::marker::Model;
 use word_kit::NoMemory;
+
+/// The literal that is true where this one is false.
+pub fn opposite(literal: i32) -> i32
+    requires { IsLiteral literal }
+    ensures { result ≡ neg_ℤ literal }
+{
+    -literal
+}
 
 /// The number of a literal, by which arrays are indexed: twice its variable, and one more where it is negated.
 pub fn code(literal: i32) -> usize

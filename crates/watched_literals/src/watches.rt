@@ -6,9 +6,8 @@ ghost use Rattle.watched_literals.specs.Literals.{code, IsWithin, AreReasoned};
 ghost use Rattle.watched_literals.specs.Watches.{IsWatch, IsStore, Rewatches, Visits, Propagates, AllWatched};
 
 use crate::lists::WatchList;
-use crate::trail::{Trail, code};
+use crate::trail::{Trail, code, opposite};
 use std::mem;
-use unit_propagation::opposite;
 use word_kit::{Clause, NoMemory};
 
 /// Two literals of a clause that are watched.

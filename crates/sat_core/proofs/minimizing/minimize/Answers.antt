@@ -1,7 +1,7 @@
 use Rattle.std.proofs.Common.{[], pos, get_or, refl, sym, subst, ap, ◌∙◌, rules, w32, SFits, to_z, of_z}
 use Rattle.std.specs.List.{All}
 use Rattle.std.proofs.lemmas.Int.{to_z-of_z}
-use Rattle.unit_propagation.specs.Propagation.{without}
+use Rattle.watched_literals.specs.Propagation.{without}
 use Rattle.watched_literals.specs.Literals.{IsWithin}
 use Rattle.watched_literals.specs.Propagators.{IsReady}
 use Rattle.sat_core.specs.Decisions.{IsGained}

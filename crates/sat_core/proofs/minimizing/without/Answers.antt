@@ -1,7 +1,7 @@
 use Rattle.std.proofs.Common.{◌++◌, ◌∷◌, [], pos, get_or, take, sym, ap, ◌∙◌, rules, w32, SFits, to_z, of_z}
 use Rattle.std.proofs.lemmas.Int.{to_z-of_z}
 use Rattle.std.proofs.lemmas.List.{take_more}
-use Rattle.unit_propagation.specs.Propagation.{without}
+use Rattle.watched_literals.specs.Propagation.{without}
 use Rattle.sat_core.proofs.Without.{without-kept, without-left}
 use Rattle.sat_core.proofs.minimizing.without.Goals as goal
 use Rattle.sat_core.proofs.minimizing.without.Goals.{then-other-literal+in_ok-push, else-other-literal}

@@ -7,8 +7,8 @@ use Rattle.std.proofs.lemmas.List.Elements.{Contains-get_or, All-get_or}
 use Rattle.indexmap.specs.IndexSet.{insert_key}
 use Rattle.watched_literals.specs.Literals.{IsWithin, AreReasoned}
 use Rattle.watched_literals.proofs.Reasons.{reasoned-none}
-use Rattle.unit_propagation.specs.Trails.{IsDenied}
-use Rattle.unit_propagation.proofs.Trails.{denied-start, denied-more, denied-true, listed, unlisted, inserted}
+use Rattle.watched_literals.specs.Trails.{IsDenied}
+use Rattle.watched_literals.proofs.Trails.{denied-start, denied-more, denied-true, listed, unlisted, inserted}
 use Rattle.watched_literals.proofs.propagator.deny.Goals as goal
 use Rattle.watched_literals.proofs.propagator.deny.Goals.{then-not-holds+in_ok-push, else-not-holds}
 

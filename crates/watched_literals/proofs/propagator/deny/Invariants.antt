@@ -1,5 +1,5 @@
 use Rattle.std.proofs.Common.{◌≡◌, List, ℤ, take}
-use Rattle.unit_propagation.specs.Trails.{IsDenied}
+use Rattle.watched_literals.specs.Trails.{IsDenied}
 use Rattle.watched_literals.specs.Literals.{AreReasoned}
 use Rattle.watched_literals.proofs.propagator.deny.Given as goal
 

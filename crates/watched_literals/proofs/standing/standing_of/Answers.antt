@@ -4,8 +4,8 @@ use Rattle.std.specs.Ordering.{int_eq}
 use Rattle.std.proofs.lemmas.Int.{to_z-of_z}
 use Rattle.std.proofs.lemmas.List.{take_more}
 use Rattle.std.proofs.lemmas.List.Elements.{Contains-get_or}
-use Rattle.unit_propagation.specs.Trails.{Leaves, IsUnit}
-use Rattle.unit_propagation.proofs.Trails.{listed, unlisted, leaves-same, leaves-all}
+use Rattle.watched_literals.specs.Trails.{Leaves, IsUnit}
+use Rattle.watched_literals.proofs.Trails.{listed, unlisted, leaves-same, leaves-all}
 use Rattle.watched_literals.specs.Propagators.{IsOpenAt}
 use Rattle.watched_literals.proofs.Knowing.{open-two, leaves-first, leaves-again}
 use Rattle.watched_literals.proofs.standing.standing_of.Goals as goal

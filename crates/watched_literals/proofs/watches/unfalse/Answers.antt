@@ -4,7 +4,7 @@ use Rattle.std.specs.List.{Contains, list_any}
 use Rattle.std.specs.Ordering.{int_eq}
 use Rattle.std.proofs.lemmas.List.{take_more, take_all}
 use Rattle.std.proofs.lemmas.List.Elements.{Contains-push_cases}
-use Rattle.unit_propagation.proofs.Trails.{listed}
+use Rattle.watched_literals.proofs.Trails.{listed}
 use Rattle.watched_literals.proofs.watches.unfalse.Goals as goal
 use Rattle.watched_literals.proofs.watches.unfalse.Goals.{else-literal-but-via-then-literal-but+else-not-holds, else-literal-but-via-else-literal-but}
 

@@ -4,7 +4,7 @@ use Rattle.std.specs.Ordering.{int_eq}
 use Rattle.std.proofs.lemmas.Int.{to_z-of_z}
 use Rattle.std.proofs.lemmas.Bool.{false≢true}
 use Rattle.std.proofs.lemmas.List.Elements.{All-push}
-use Rattle.unit_propagation.proofs.Trails.{listed, unlisted}
+use Rattle.watched_literals.proofs.Trails.{listed, unlisted}
 use Rattle.watched_literals.specs.Literals.{IsWithin}
 use Rattle.watched_literals.specs.Propagators.{Spreads}
 use Rattle.sat_core.specs.Decisions.{IsLiteralOf}

@@ -3,8 +3,8 @@ use Rattle.std.proofs.lemmas.Int.{to_z-of_z}
 use Rattle.std.specs.List.{list_any}
 use Rattle.std.specs.Ordering.{int_eq}
 use Rattle.std.proofs.lemmas.List.Elements.{All-contains}
-use Rattle.unit_propagation.specs.Propagation.{HasConflict}
-use Rattle.unit_propagation.proofs.Trails.{tested}
+use Rattle.watched_literals.specs.Propagation.{HasConflict}
+use Rattle.watched_literals.proofs.Trails.{tested}
 use Rattle.watched_literals.specs.Literals.{IsWithin, AreReasoned}
 use Rattle.watched_literals.proofs.Reasons.{reasoned-none, reasoned-longer}
 use Rattle.watched_literals.specs.Watches.{IsStore, AllWatched, Propagates}

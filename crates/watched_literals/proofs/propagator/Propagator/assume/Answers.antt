@@ -2,7 +2,7 @@ use Rattle.std.proofs.Common.{◌++◌, ◌∷◌, [], take, sym, subst, ap, ◌
 use Rattle.std.proofs.lemmas.Int.{to_z-of_z}
 use Rattle.std.specs.List.{list_any}
 use Rattle.std.specs.Ordering.{int_eq}
-use Rattle.unit_propagation.proofs.Trails.{tested, extends-on}
+use Rattle.watched_literals.proofs.Trails.{tested, extends-on}
 use Rattle.watched_literals.specs.Literals.{AreReasoned}
 use Rattle.watched_literals.specs.Watches.{AllWatched, Propagates}
 use Rattle.watched_literals.specs.Propagators.{IsOpen, Spreads}

@@ -1,6 +1,6 @@
 use Rattle.std.proofs.Common.{[], sym, subst, ◌∙◌}
-use Rattle.unit_propagation.specs.Propagation.{HasConflict}
-use Rattle.unit_propagation.proofs.Roots.{follows-refuted}
+use Rattle.watched_literals.specs.Propagation.{HasConflict}
+use Rattle.watched_literals.proofs.Trails.{follows-refuted}
 use Rattle.watched_literals.specs.Literals.{AreReasoned}
 use Rattle.watched_literals.proofs.Reasons.{reasoned-take}
 use Rattle.watched_literals.specs.Watches.{AllWatched}
@@ -34,7 +34,7 @@ returns-clause-ready c = λ known ready.
     c.as_slice.ensures.value c.in_ok-follows.ensures.tried in
     let back = tried-back known c.args.self.now.trail.room c.args.self.now.clauses.items c.args.clause.now c.args.self.now.watches.pairs.items c.args.self.now.watches.rows.items c.args.self.now.watches.pending c.args.self.now.trail.literals
     c.attempt.new.watches.pairs.items c.attempt.new.watches.rows.items c.attempt.new.watches.pending c.attempt.new.trail.literals c.in_ok-follows.follows
-    c.len-count.result c.truncate.new.self.literals t c.len-count.ensures c.truncate.ensures.literals (open-of c.args.self.now.refuted (HasConflict known []) (IsOpen known c.args.self.now.trail.room c.args.self.now.clauses.items c.args.self.now.watches.pairs.items c.args.self.now.watches.rows.items c.args.self.now.watches.pending c.args.self.now.trail.literals) c.if-self.false ready) in
+    c.len-root.result c.truncate.new.self.literals t c.len-root.ensures c.truncate.ensures.literals (open-of c.args.self.now.refuted (HasConflict known []) (IsOpen known c.args.self.now.trail.room c.args.self.now.clauses.items c.args.self.now.watches.pairs.items c.args.self.now.watches.rows.items c.args.self.now.watches.pending c.args.self.now.trail.literals) c.if-self.false ready) in
     let room = c.truncate.ensures.room ∙ c.in_ok-follows.ensures.room in
     of-open c.args.self.now.refuted (HasConflict known [])
     (IsOpen known c.truncate.new.self.room c.args.self.now.clauses.items c.attempt.new.watches.pairs.items c.attempt.new.watches.rows.items c.attempt.new.watches.pending c.truncate.new.self.literals)
@@ -43,6 +43,6 @@ returns-clause-ready c = λ known ready.
 
 pub returns-clause-reasons : goal.returns-clause-reasons
 returns-clause-reasons c = λ h.
-    reasoned-take c.args.self.now.clauses.items c.attempt.new.trail c.truncate.new.self c.len-count.result c.truncate.ensures.literals c.truncate.ensures.reasons
+    reasoned-take c.args.self.now.clauses.items c.attempt.new.trail c.truncate.new.self c.len-root.result c.truncate.ensures.literals c.truncate.ensures.reasons
     (subst (λ cs. AreReasoned cs c.attempt.new.trail) c.as_slice.ensures.value
     (c.in_ok-follows.ensures.reasons (subst (λ cs. AreReasoned cs c.args.self.now.trail) (sym c.as_slice.ensures.value) h)))

@@ -3,13 +3,13 @@ use Rattle.std.proofs.lemmas.Int.{to_z-of_z}
 use Rattle.std.specs.List.{All, Contains, list_any}
 use Rattle.std.specs.Ordering.{int_eq}
 use Rattle.std.proofs.lemmas.List.Elements.{All-contains}
-use Rattle.unit_propagation.proofs.Trails.{listed, unlisted}
+use Rattle.watched_literals.proofs.Trails.{listed, unlisted}
 use Rattle.word_kit.specs.Formulas.{IsLiteral}
 use Rattle.watched_literals.specs.Literals.{code, IsWithin}
 use Rattle.watched_literals.specs.Watches.{Rewatches}
 use Rattle.watched_literals.proofs.Watching.{inside-of, watch-read, watch-within, watch-apart, opposite-within, clause-read, rewatch-true, rewatch-move, rewatch-false, rewatch-unit, unit-of}
 use Rattle.watched_literals.proofs.Reasons.{reasoned-unit}
-use Rattle.unit_propagation.specs.Trails.{IsUnit}
+use Rattle.watched_literals.specs.Trails.{IsUnit}
 use Rattle.watched_literals.proofs.watches.Watches.rewatch.Goals as goal
 
 pub index-pair-requires : goal.index-pair-requires
