@@ -1,5 +1,5 @@
 #!/usr/bin/env python3
-"""Writes the formulas of this folder: each is refuted. The gates are Tseitin's clauses."""
+"""Writes the formulas of this folder, none of which has a model. The gates are Tseitin's clauses."""
 import random
 
 
@@ -128,13 +128,14 @@ def pigeons(holes):
     return c
 
 
-def random_clauses(variables, seed):
-    """4.26 clauses of three different variables for each variable."""
+def random_clauses(variables, count, seed):
+    """Clauses of three different variables, each negated with probability one half."""
     random.seed(seed)
     c = Circuit()
     c.variables = variables
-    for _ in range(round(4.26 * variables)):
-        c.clauses.append([v * random.choice((1, -1)) for v in random.sample(range(1, variables + 1), 3)])
+    for _ in range(count):
+        drawn = random.sample(range(1, variables + 1), 3)
+        c.clauses.append([v if random.random() < 0.5 else -v for v in drawn])
     return c
 
 
@@ -153,5 +154,5 @@ if __name__ == "__main__":
     write("signed-compare-32", signed_compare(32))
     for holes in (5, 6, 7):
         write("pigeons-%d" % (holes + 1), pigeons(holes))
-    for variables, seed in ((100, 2), (100, 7), (150, 1), (150, 2)):
-        write("random-%d-%d" % (variables, seed), random_clauses(variables, seed))
+    for variables, count, seed in ((100, 440, 7), (150, 660, 2), (150, 660, 7)):
+        write("random-%d-%d" % (variables, seed), random_clauses(variables, count, seed))

@@ -11,9 +11,7 @@ use reading::{formula_of, log_of};
 use refute_check::{CheckFault, check};
 use sat_core::{Verdict, solve};
 use std::alloc::Global;
-use std::env;
-use std::fs;
-use std::io;
+use std::{env, fs, io};
 use word_kit::{Formula, NoMemory, Refutation};
 
 /// What the solver says, and how many learned clauses it took.
@@ -41,7 +39,8 @@ fn checked(alloc: Global, formula: &str, log: &str) -> Result<(&'static str, usi
 fn main(rt: HostRuntime) -> io::Result<()> {
     let alloc = rt.alloc();
     let mut words = env::args(&rt)?.skip(1);
-    let (Some(command), Some(formula), Some(last)) = (words.next(), words.next(), words.next()) else {
+    let (Some(command), Some(formula), Some(last)) = (words.next(), words.next(), words.next())
+    else {
         println!(rt; "usage: sat_bench solve FORMULA LIMIT, or sat_bench check FORMULA LOG")?;
         return Ok(());
     };
@@ -50,7 +49,11 @@ fn main(rt: HostRuntime) -> io::Result<()> {
         let log = fs::read_to_string(&rt, last.as_str())?;
         checked(alloc, formula.as_str(), log.as_str())
     } else {
-        solved(alloc, formula.as_str(), last.as_str().parse::<usize>().unwrap_or(0))
+        solved(
+            alloc,
+            formula.as_str(),
+            last.as_str().parse::<usize>().unwrap_or(0),
+        )
     };
     match answer {
         Ok((verdict, steps)) => println!(rt; "{verdict} {steps}")?,

@@ -6,8 +6,7 @@ ghost use Rattle.sat_core.specs.Searching.{IsSearching, IsStart, Reaches};
 
 use crate::order::Order;
 use std::alloc::Global;
-use watched_literals::opposite;
-use watched_literals::Propagator;
+use watched_literals::{Propagator, opposite};
 use word_kit::{Clause, Formula, NoMemory};
 
 /// The variables that literals can name are those up to this one.

@@ -1,5 +1,5 @@
 -- How trails grow, and what stays settled.
-use Rattle.std.proofs.Common.{◌≡◌, ◌≢◌, ◌⊎◌, inl, inr, ℕ, zero, suc, ◌<◌, ◌≤◌, ◌+◌, ◌-◌, Bool, true, false, not, cond, ◌||◌, List, [], ◌∷◌, ◌++◌, ℤ, pos, negsuc, neg_ℤ, length, take, get_or, refl, sym, subst, ap, ◌∙◌, arith, length-append, append_assoc, append-nil, true≢false, None, Some, Option}
+use Rattle.std.proofs.Common.{◌≡◌, ◌≢◌, ◌⊎◌, inl, inr, ℕ, zero, suc, ◌<◌, ◌≤◌, ◌+◌, Bool, true, false, not, cond, ◌||◌, List, [], ◌∷◌, ◌++◌, ℤ, pos, negsuc, neg_ℤ, length, take, get_or, refl, sym, subst, ap, ◌∙◌, arith, length-append, append_assoc, append-nil, true≢false, None, Some, Option}
 use Rattle.std.proofs.lemmas.Bool.{false≢true}
 use Rattle.std.specs.List.{All, Contains, filter, flat_map, list_any}
 use Rattle.std.specs.Bool.{Decides}
@@ -8,12 +8,11 @@ use Rattle.std.proofs.lemmas.Bool.Decides.{Decides-int_eq}
 use Rattle.std.proofs.lemmas.List.Elements.{All-contains, All-push, All-take, All-contains_itself, Contains-append_left, Contains-append_right, Contains-push, Contains-push_cases}
 use Rattle.std.proofs.Math.IntN.{neg_ℤ-neg_ℤ}
 use Rattle.std.proofs.Math.Seq.{take-length, take-append_seam}
-use Rattle.std.proofs.lemmas.List.{take-append-le, take_more}
 use Rattle.indexmap.specs.IndexSet.{insert_key}
 use Rattle.word_kit.specs.Formulas.{IsLiteral, AreClauses}
 use Rattle.watched_literals.specs.Propagation.{IsMadeTrue, HasConflict, Follows}
 use Rattle.watched_literals.specs.Propagation.IsMadeTrue.{opposite, unit}
-use Rattle.watched_literals.specs.Trails.{AreMadeTrue, IsConsistent, IsSettled, AllSettled, IsUnit, IsFalse, Leaves, Extends, IsDenied, Denies, unset, Grows}
+use Rattle.watched_literals.specs.Trails.{IsConsistent, IsSettled, AllSettled, IsUnit, Leaves, Extends, IsDenied, Denies, unset, Grows}
 
 -- two numbers are the same or they aren't
 pub same_or_not : (x y : ℤ) → (x ≡ y) ⊎ (x ≢ y)

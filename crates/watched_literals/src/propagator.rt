@@ -1,12 +1,12 @@
 //! Known clauses, what they make true, and whether another clause follows from them.
-ghost use Rattle.std.specs.Prelude.{◌≡◌, ◌≢◌, true, take, ◌≤◌, ◌<◌, ◌+◌, ◌*◌, ◌^◌, ◌++◌, ◌∷◌, [], List, ℕ, ℤ, pos, length, IfOk, OnOk};
+ghost use Rattle.std.specs.Prelude.{◌≡◌, ◌≢◌, true, None, Some, take, slice_get, slice_index_or, IfSome, ◌≤◌, ◌<◌, ◌+◌, ◌*◌, ◌^◌, ◌++◌, ◌∷◌, [], List, ℕ, ℤ, pos, length, IfOk, OnOk};
 ghost use Rattle.std.specs.Bool.{Decides};
 ghost use Rattle.std.specs.List.{All, Contains, list_any};
 ghost use Rattle.std.specs.Ordering.{int_eq};
 ghost use Rattle.word_kit.specs.Formulas.{IsLiteral};
 ghost use Rattle.watched_literals.specs.Propagation.{Follows};
 ghost use Rattle.watched_literals.specs.Trails.{Denies};
-ghost use Rattle.watched_literals.specs.Literals.{IsWithin, AreReasoned};
+ghost use Rattle.watched_literals.specs.Literals.{IsWithin, AreReasoned, clause_at};
 ghost use Rattle.watched_literals.specs.Watches.{IsStore, IsPair, AllWatched};
 ghost use Rattle.watched_literals.specs.Propagators.{IsReady, IsTried, IsAbove, IsComplete, Spreads};
 
@@ -258,7 +258,9 @@ impl Propagator {
     }
 
     /// The literal at this place of the trail.
-    pub fn literal(&self, place: usize) -> Option<i32> {
+    pub fn literal(&self, place: usize) -> Option<i32>
+        ensures { result ≡ slice_get self.now.trail.literals place }
+    {
         if place < self.trail.len() {
             Some(self.trail.get(place))
         } else {
@@ -267,7 +269,9 @@ impl Propagator {
     }
 
     /// Where the literal stands on the trail, if it is true.
-    pub fn place_of(&self, literal: i32) -> Option<usize> {
+    pub fn place_of(&self, literal: i32) -> Option<usize>
+        ensures { IfSome result (λ place. slice_get self.now.trail.literals place ≡ Some literal) }
+    {
         if self.is_within(literal) {
             self.trail.place_of(literal)
         } else {
@@ -276,16 +280,22 @@ impl Propagator {
     }
 
     /// The clause that made the literal at this place of the trail true, or no literals.
-    pub fn reason(&self, place: usize) -> &[i32] {
+    pub fn reason(&self, place: usize) -> &[i32]
+        ensures { result.now ≡ clause_at self.now.clauses.items (slice_index_or self.now.trail.reasons place None) }
+    {
         self.literals_at(self.trail.reason_at(place))
     }
 
     /// The clause that became false last, or no literals.
-    pub fn conflict(&self) -> &[i32] {
+    pub fn conflict(&self) -> &[i32]
+        ensures { result.now ≡ clause_at self.now.clauses.items self.now.watches.conflict }
+    {
         self.literals_at(self.watches.conflict)
     }
 
-    fn literals_at(&self, place: Option<usize>) -> &[i32] {
+    fn literals_at(&self, place: Option<usize>) -> &[i32]
+        ensures { result.now ≡ clause_at self.now.clauses.items place }
+    {
         match place {
             Some(place) if place < self.clauses.len() => self.clauses[place].as_slice(),
             _ => &[],

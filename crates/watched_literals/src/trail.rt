@@ -1,5 +1,5 @@
 //! Literals that are true, in the order in which they were made true.
-ghost use Rattle.std.specs.Prelude.{◌≡◌, ◌<◌, ◌≤◌, ◌-◌, ◌++◌, ◌∷◌, [], None, false, pos, neg_ℤ, length, take, slice_index_or, IfOk, OnOk};
+ghost use Rattle.std.specs.Prelude.{◌≡◌, ◌<◌, ◌≤◌, ◌-◌, ◌++◌, ◌∷◌, [], None, Some, false, slice_get, IfSome, pos, neg_ℤ, length, take, slice_index_or, IfOk, OnOk};
 ghost use Rattle.std.specs.List.{list_any};
 ghost use Rattle.std.specs.Ordering.{int_eq};
 ghost use Rattle.word_kit.specs.Formulas.{IsLiteral};
@@ -107,6 +107,7 @@ impl Trail {
     /// Where the literal stands, if it is true.
     pub fn place_of(&self, literal: i32) -> Option<usize>
         requires { IsLiteral literal }
+        ensures { IfSome result (λ place. slice_get self.now.literals place ≡ Some literal) }
     {
         let place = *self.places.get(code(literal))?;
         if *self.literals.get(place)? == literal {
@@ -118,7 +119,7 @@ impl Trail {
 
     /// The clause that made the literal at this place true.
     pub fn reason_at(&self, place: usize) -> Option<usize>
-        ensures { place < length self.now.reasons → result ≡ slice_index_or self.now.reasons place None }
+        ensures { result ≡ slice_index_or self.now.reasons place None }
     {
         *self.reasons.get(place)?
     }
