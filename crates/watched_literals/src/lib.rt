@@ -1,4 +1,5 @@
-//! Unit propagation with two watched literals a clause, and the truth of literals in an array by their number.
+//! Unit propagation with two watched literals a clause: what clauses make true, and whether a clause follows from them. Values,
+//! places and reasons of literals stand in arrays.
 #![tactic(auto)]
 
 mod lists;

@@ -9,6 +9,7 @@ use indexmap::IndexSet;
 use std::alloc::Global;
 use word_kit::{Clause, NoMemory};
 
+/// The place of the last variable whose number a literal can name.
 const LAST: usize = 0x7FFF_FFFE;
 
 /// The variables that have numbers, from 1 on.
@@ -18,6 +19,7 @@ pub struct Numbering {
 }
 
 impl Numbering {
+    /// No variable has a number.
     pub fn new(alloc: Global) -> Numbering
         ensures { result.variables.keys ≡ [] }
     {
@@ -26,6 +28,7 @@ impl Numbering {
         }
     }
 
+    /// The literal with its variable's number in place of the variable, which gets the next number if it has none.
     fn number(&mut self, literal: i32) -> Result<i32, NoMemory>
         requires literal { IsLiteral literal }
         requires names { AreNames self.old.variables.keys }
@@ -41,6 +44,10 @@ impl Numbering {
         if literal < 0 { Ok(-number) } else { Ok(number) }
     }
 
+    /// The clause with numbers in place of its variables.
+    ///
+    /// # Errors
+    /// `NoMemory` where memory ran out, or where 2^31 - 1 variables have numbers already.
     pub fn renumber(&mut self, alloc: Global, clause: &[i32]) -> Result<Clause, NoMemory>
         requires literals { All IsLiteral clause.now }
         requires names { AreNames self.old.variables.keys }
@@ -55,7 +62,10 @@ impl Numbering {
         Ok(Clause::from(numbers))
     }
 
-    /// The same for a list of clauses.
+    /// The clauses with numbers in place of their variables.
+    ///
+    /// # Errors
+    /// `NoMemory` where memory ran out, or where 2^31 - 1 variables have numbers already.
     pub fn renumber_all(
         &mut self,
         alloc: Global,

@@ -228,18 +228,21 @@ impl Propagator {
         self.trail.truncate(count);
     }
 
+    /// How many literals are true.
     pub fn len(&self) -> usize
         ensures { result ≡ length self.now.trail.literals }
     {
         self.trail.len()
     }
 
+    /// Whether a known clause is false where nothing is assumed.
     pub fn is_refuted(&self) -> bool
         ensures { result ≡ self.now.refuted }
     {
         self.refuted
     }
 
+    /// Whether the literal is true.
     pub fn holds(&self, literal: i32) -> bool
         requires { IsWithin self.now.trail.room literal }
         ensures { result ≡ list_any (int_eq literal) self.now.trail.literals }
