@@ -1,30 +1,52 @@
 //! The check of a refutation.
 ghost use Rattle.std.specs.Prelude.{◌≡◌, ◌↔◌, ◌++◌, [], IfOk, IfErr, IsTrue, MatchOption};
-ghost use Rattle.std.specs.Ordering.{int_eq};
-ghost use Rattle.indexmap.specs.IndexMap.{get};
+ghost use Rattle.std.specs.List.{All};
 ghost use Rattle.word_kit.specs.Formulas.{IsFormula, AreClauses};
-ghost use Rattle.unit_propagation.specs.Indexes.{IsReady};
+ghost use Rattle.watched_literals.specs.Literals.{IsWithin};
 ghost use Rattle.refute_check.specs.Refutations.{StepsFollow, IsFirstBad, EndsEmpty, IsRefutation, IsCause};
 
 use crate::CheckFault;
 use std::alloc::Global;
-use unit_propagation::know;
+use watched_literals::{Numbering, Propagator};
 use word_kit::{Clause, Formula, NoMemory, Refutation};
 
-/// The first step that doesn't follow.
-fn first_bad(alloc: Global, formula: &[Clause], steps: &[Clause]) -> Result<Option<usize>, NoMemory>
+/// The first step that doesn't follow, where literals have numbers below `room`.
+fn first_bad(
+    alloc: Global,
+    formula: &[Clause],
+    steps: &[Clause],
+    room: usize,
+) -> Result<Option<usize>, NoMemory>
+    requires formula { All (λ clause. All (IsWithin room) clause) formula.now }
+    requires steps { All (λ clause. All (IsWithin room) clause) steps.now }
+    ensures { IfOk result (λ bad. MatchOption bad (StepsFollow formula.now steps.now) (λ place. IsFirstBad formula.now steps.now place)) }
+{
+    let mut propagator = Propagator::over(alloc, formula, room)?;
+    for place in 0..steps.len() {
+        if !propagator.follows(steps[place].as_slice())? {
+            return Ok(Some(place));
+        }
+        propagator.add(steps[place].as_slice())?;
+    }
+    Ok(None)
+}
+
+/// The first step that doesn't follow. The variables are numbered anew first, so that memory goes with how many there are, and not
+/// with their numbers.
+fn numbered_bad(
+    alloc: Global,
+    formula: &[Clause],
+    steps: &[Clause],
+) -> Result<Option<usize>, NoMemory>
     requires formula { AreClauses formula.now }
     requires steps { AreClauses steps.now }
     ensures { IfOk result (λ bad. MatchOption bad (StepsFollow formula.now steps.now) (λ place. IsFirstBad formula.now steps.now place)) }
 {
-    let mut known = know(alloc, formula)?;
-    for place in 0..steps.len() {
-        if !known.follows(formula, &steps[..place], steps[place].as_slice())? {
-            return Ok(Some(place));
-        }
-        known.add(formula, &steps[..place + 1])?;
-    }
-    Ok(None)
+    let mut numbering = Numbering::new(alloc);
+    let clauses = numbering.renumber_all(alloc, formula)?;
+    let log = numbering.renumber_all(alloc, steps)?;
+    let bad = first_bad(alloc, &clauses, &log, numbering.room())?;
+    Ok(bad)
 }
 
 /// Whether the last of the steps is the empty clause.
@@ -52,7 +74,7 @@ pub fn check(alloc: Global, formula: &Formula, log: &Refutation) -> Result<(), C
 {
     let clauses = formula.clauses.as_slice();
     let steps = log.clauses.as_slice();
-    match first_bad(alloc, clauses, steps) {
+    match numbered_bad(alloc, clauses, steps) {
         Err(error) => Err(CheckFault::Memory(error)),
         Ok(Some(place)) => Err(CheckFault::BadStep(place)),
         Ok(None) => {

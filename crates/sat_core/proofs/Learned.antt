@@ -1,14 +1,15 @@
 -- Steps that are learned one after the other.
 use Rattle.std.proofs.Common.{◌≡◌, ◌⊎◌, inl, inr, ℕ, ◌<◌, ◌≤◌, List, [], ◌∷◌, ◌++◌, ℤ, neg_ℤ, length, take, get_or, refl, sym, subst, ap, ◌∙◌, arith, length-append}
-use Rattle.std.specs.List.{Contains}
-use Rattle.std.proofs.lemmas.List.Elements.{Contains-get_or, Contains-append_right}
+use Rattle.std.proofs.lemmas.Bool.{cases_lt}
+use Rattle.std.specs.List.{All, Contains}
+use Rattle.word_kit.specs.Formulas.{IsLiteral, AreClauses}
+use Rattle.std.proofs.lemmas.List.Elements.{Contains-get_or, Contains-append_right, All-push}
 use Rattle.std.proofs.lemmas.List.{take-append-le}
 use Rattle.std.proofs.Math.ListN.{get_or-append}
 use Rattle.std.proofs.Math.IntN.{neg_ℤ-neg_ℤ}
 use Rattle.std.proofs.Math.Seq.{get_or-append_seam, take-append_seam}
-use Rattle.unit_propagation.specs.Propagation.{HasConflict, Follows, without}
-use Rattle.unit_propagation.specs.Propagation.IsMadeTrue.{opposite, unit}
-use Rattle.unit_propagation.proofs.Indexes.{nat-order}
+use Rattle.watched_literals.specs.Propagation.{HasConflict, Follows, without}
+use Rattle.watched_literals.specs.Propagation.IsMadeTrue.{opposite, unit}
 use Rattle.refute_check.specs.Refutations.{StepsFollow}
 use Rattle.sat_core.specs.Lessons.{IsLesson, AreLessons, AreSame, AreDifferent}
 use Rattle.sat_core.specs.Verdicts.{AreLearned, IsRefuted}
@@ -30,7 +31,7 @@ not-known clauses known clause inside h same =
 
 at-place : (steps : List (List ℤ)) (clause : List ℤ) (place : ℕ) → place < length (steps ++ clause ∷ [])
     → (place < length steps) ⊎ (place ≡ length steps)
-at-place steps clause place within = elim (nat-order place (length steps)) [
+at-place steps clause place within = elim (cases_lt place (length steps)) [
   | inl less ↦ inl less
   | inr past ↦ inr (omega (arith, within, length-append steps (clause ∷ [])))
 ]
@@ -74,10 +75,11 @@ learned-more formula steps clause h lesson = record { lessons = lessons; differe
 
 -- the empty clause ends a refutation
 pub refuted-end : (formula steps : List (List ℤ)) (limit : ℕ) → AreLearned formula steps → length steps ≤ limit → HasConflict (formula ++ steps) []
-    → IsRefuted formula limit (steps ++ [] ∷ [])
-refuted-end formula steps limit h within conflict = record {
+    → AreClauses steps → IsRefuted formula limit (steps ++ [] ∷ [])
+refuted-end formula steps limit h within conflict literals = record {
   refutation = record { follow = follow; ends = (steps, refl) };
   learned = (steps, refl, within, h);
+  literals = All-push (All IsLiteral) steps [] literals (λ k d inside. absurd (omega (arith, inside)));
 }
   where
     follow : StepsFollow formula (steps ++ [] ∷ [])

@@ -4,3 +4,4 @@ pub mod Tight
 pub mod Learned
 pub mod Models
 pub mod Turns
+pub mod Reaching

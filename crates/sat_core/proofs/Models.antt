@@ -2,14 +2,14 @@
 use Rattle.std.proofs.Common.{◌≡◌, ◌⊎◌, inl, inr, ℕ, zero, suc, ◌<◌, ◌≤◌, ◌+◌, ◌^◌, Bool, true, false, not, IsTrue, List, [], ◌∷◌, ◌++◌, ℤ, pos, negsuc, neg_ℤ, length, get_or, refl, sym, subst, ap, ◌∙◌, arith, length-append}
 use Rattle.std.proofs.Math.ListN.{get_or-append}
 use Rattle.std.proofs.Math.Seq.{get_or-append_seam}
-use Rattle.unit_propagation.proofs.Indexes.{nat-order}
+use Rattle.std.proofs.lemmas.Bool.{cases_lt}
 use Rattle.std.specs.List.{All, Any, Contains, list_any}
 use Rattle.std.specs.Ordering.{int_eq}
 use Rattle.std.proofs.lemmas.List.Elements.{All-weaker, All-contains, All-contains_itself, Contains-append_left}
 use Rattle.word_kit.specs.Formulas.{IsLiteral, IsFormula, AreClauses, Satisfies, literal_truth, variable}
 use Rattle.word_kit.specs.declared.formulas.Formula.{Formula}
-use Rattle.unit_propagation.specs.Trails.{IsConsistent, IsSettled, AllSettled}
-use Rattle.unit_propagation.proofs.Trails.{lists, tested}
+use Rattle.watched_literals.specs.Trails.{IsConsistent, IsSettled, AllSettled}
+use Rattle.watched_literals.proofs.Trails.{lists, tested}
 use Rattle.sat_core.specs.Decisions.{IsClosedUnder, IsVariable, IsAssigned, AreRead}
 use Rattle.sat_core.specs.Verdicts.{IsModel, value_of}
 
@@ -71,7 +71,7 @@ pub read-more : (trail : List ℤ) (n : ℕ) (values : List Bool) (b : Bool) →
     → AreRead trail n values → AreRead trail (n + 1) (values ++ b ∷ [])
 read-more trail n values b here h = record {
   one_each = omega (arith, length-append values (b ∷ []), h.one_each);
-  read = λ index less below. elim (nat-order index n) [
+  read = λ index less below. elim (cases_lt index n) [
     | inl before ↦ get_or-append values (b ∷ []) false index (omega (arith, before, h.one_each)) ∙ h.read index before below
     | inr past ↦
         let at : index ≡ n = omega (arith, less, past) in

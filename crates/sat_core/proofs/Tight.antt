@@ -6,11 +6,11 @@ use Rattle.std.specs.Bool.{Decides}
 use Rattle.std.proofs.lemmas.Bool.{false≢true}
 use Rattle.std.proofs.lemmas.List.Elements.{Contains-push_cases}
 use Rattle.std.proofs.Math.Seq.{take-length}
-use Rattle.unit_propagation.specs.Propagation.{HasConflict, IsTautology, Follows, IsTight, without}
-use Rattle.unit_propagation.proofs.Trails.{Contains-nil, made-more, same_or_not}
+use Rattle.watched_literals.specs.Propagation.{HasConflict, IsTautology, Follows, IsTight, without}
+use Rattle.watched_literals.proofs.Trails.{Contains-nil, made-more, same_or_not}
 use Rattle.sat_core.specs.Decisions.{IsGained}
 use Rattle.sat_core.specs.Lessons.{IsLesson}
-use Rattle.sat_core.proofs.Without.{AreWithin, from-without, to-without, without-within, without-more, literals-within, tautology-more, conflict-within, follows-within}
+use Rattle.sat_core.proofs.Without.{AreWithin, from-without, to-without, without-within, without-more, tautology-more, conflict-within, follows-within}
 
 -- these literals were tried, and what is left follows and is news by the last one
 pub record IsTightened (clauses : List (List ℤ)) (clause : List ℤ) (last : ℤ) (done kept : List ℤ) : Type 0 where
@@ -38,7 +38,6 @@ gained-without : (clauses : List (List ℤ)) (kept : List ℤ) (last literal : �
     → IsGained clauses kept last → IsGained clauses (without literal kept) last
 gained-without clauses kept last literal ne follows h = record {
   inside = to-without literal kept last h.inside (λ e. ne (sym e));
-  literals = literals-within (without literal kept) kept (without-within literal kept) h.literals;
   plain = plain;
   conflict = go follows;
   quiet = λ k. h.quiet (conflict-within clauses (without last (without literal kept)) (without last kept) less k);

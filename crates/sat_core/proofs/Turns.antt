@@ -1,89 +1,72 @@
 -- A search, and the way back from it.
-use Rattle.std.proofs.Common.{◌≡◌, inr, ℕ, ◌≤◌, Bool, true, false, not, IsTrue, List, [], ◌∷◌, ◌++◌, ℤ, length, take, sym, subst, ap, ◌∙◌, Option, None, Some, ◌≢◌, arith, length-append, append_assoc}
+use Rattle.std.proofs.Common.{◌≡◌, ℕ, ◌≤◌, true, false, List, [], ◌∷◌, ◌++◌, ℤ, length, take, sym, subst, ap, ◌∙◌, ◌≢◌, arith, length-append, append-nil}
 use Rattle.std.specs.List.{All}
 use Rattle.std.proofs.lemmas.List.Elements.{All-push}
+use Rattle.std.proofs.Math.Seq.{take-append_seam}
 use Rattle.word_kit.specs.Formulas.{IsLiteral, AreClauses}
-use Rattle.unit_propagation.specs.Propagation.{HasConflict}
+use Rattle.watched_literals.specs.Propagation.{HasConflict}
+use Rattle.watched_literals.proofs.Trails.{Contains-nil}
+use Rattle.watched_literals.specs.declared.propagator.Propagator.{Propagator}
+use Rattle.watched_literals.specs.Literals.{IsWithin}
+use Rattle.watched_literals.specs.Propagators.{IsOpen, IsReady, IsAbove, IsComplete}
+use Rattle.watched_literals.specs.Watches.{AllWatched}
+use Rattle.watched_literals.proofs.Knowing.{open-of, refuted-of, known-settled}
 use Rattle.sat_core.specs.Lessons.{IsLesson}
 use Rattle.sat_core.specs.Verdicts.{AreLearned, IsRefuted}
 use Rattle.sat_core.proofs.Learned.{learned-more, refuted-end}
-use Rattle.std.proofs.lemmas.Bool.{false≢true}
-use Rattle.std.proofs.lemmas.List.{length-take-le}
-use Rattle.std.proofs.Math.Seq.{take-append_seam}
-use Rattle.unit_propagation.specs.declared.mentions.Mention.{Mention}
-use Rattle.unit_propagation.specs.Trails.{Extends}
-use Rattle.unit_propagation.specs.Indexes.{IsIndexOf, IsClosed, IsRoot, IsReady}
-use Rattle.unit_propagation.proofs.Roots.{cut-back}
-use Rattle.sat_core.specs.Decisions.{IsClosedUnder, IsVariable, Leads}
-use Rattle.sat_core.proofs.Chosen.{closed-start, leads-on}
+use Rattle.sat_core.specs.Decisions.{IsClosedUnder}
 
-pub leads-extends : (clauses : List (List ℤ)) (wanted : ℤ → Type 0) (old new decided : List ℤ) (last : Option ℤ)
-    → Leads clauses wanted old new decided last → Extends old new
-leads-extends clauses wanted old new decided None h = h.1
-leads-extends clauses wanted old new decided (Some last) h = h.1
+-- ---- the root
 
--- where the clauses aren't refuted, the root is closed
-pub root-closed : (clauses : List (List ℤ)) (trail : List ℤ) (refuted : Bool) → IsTrue (not refuted) → IsRoot clauses trail refuted → IsClosed clauses trail
-root-closed clauses trail true h r = absurd (false≢true h)
-root-closed clauses trail false h r = r
+pub open-at : (known : List (List ℤ)) (s : Propagator) → s.refuted ≡ false → IsReady known s
+    → IsOpen known s.trail.room s.clauses.items s.watches.pairs.items s.watches.rows.items s.watches.pending s.trail.literals
+open-at known s e ready = open-of s.refuted (HasConflict known [])
+    (IsOpen known s.trail.room s.clauses.items s.watches.pairs.items s.watches.rows.items s.watches.pending s.trail.literals) e ready
 
-closed-root : (clauses : List (List ℤ)) (trail : List ℤ) (refuted : Bool) → IsTrue (not refuted) → IsClosed clauses trail → IsRoot clauses trail refuted
-closed-root clauses trail true h r = absurd (false≢true h)
-closed-root clauses trail false h r = r
+-- nothing is assumed above the root
+pub rooted-above : (known : List (List ℤ)) (s : Propagator) → s.refuted ≡ false → IsReady known s → IsAbove known s.trail.literals s
+rooted-above known s e ready = record { open_root = e; base = open-at known s e ready; above = ([], sym (append-nil s.trail.literals)) }
 
-pub start-closed : (clauses : List (List ℤ)) (old trail decided : List ℤ) → trail ≡ old → decided ≡ [] → IsClosed clauses old
-    → IsClosedUnder clauses decided trail
-start-closed clauses old trail decided e f h =
-    subst (λ d. IsClosedUnder clauses d trail) (sym f) (subst (IsClosedUnder clauses []) (sym e) (closed-start clauses old h))
+pub rooted-complete : (known : List (List ℤ)) (root : List ℤ) (s : Propagator) → s.trail.literals ≡ root → IsAbove known root s → IsComplete s
+rooted-complete known root s e h = subst (λ xs. AllWatched s.clauses.items s.watches.pairs.items xs xs) (sym e) h.base.watched
 
--- the trail is cut back to the root after a search, and once more after another one
-pub back-ready : (clauses : List (List ℤ)) (newest : ℤ → Option ℕ) (all : List Mention) (first root then new : List ℤ) (place : ℕ) (refuted : Bool)
-    (wanted : ℤ → Type 0) (decided : List ℤ) (last : Option ℤ) → place ≤ length first → root ≡ take place first → new ≡ take place then
-    → Leads clauses wanted root then decided last → IsIndexOf clauses newest all → IsTrue (not refuted) → IsClosed clauses (take place first)
-    → IsReady clauses newest all new refuted
-back-ready clauses newest all first root then new place refuted wanted decided last within e f h indexed quiet closed =
-    let at : place ≡ length root = sym (ap length e ∙ length-take-le place first within) in
-    let same : new ≡ take place first = cut-back root then new place at (leads-extends clauses wanted root then decided last h) f ∙ e in
-    record { indexed = indexed; root = closed-root clauses new refuted quiet (subst (IsClosed clauses) (sym same) closed) }
+pub rooted-closed : (known : List (List ℤ)) (root assumed : List ℤ) (s : Propagator) → s.trail.literals ≡ root → assumed ≡ [] → IsAbove known root s
+    → IsClosedUnder known assumed s.trail.literals
+rooted-closed known root assumed s e f h =
+    subst (IsClosedUnder known assumed) (sym e) (subst (λ xs. IsClosedUnder known xs root) (sym f) (record {
+      made = h.base.made;
+      consistent = h.base.consistent;
+      settled = known-settled s.trail.room s.clauses.items s.watches.pairs.items s.watches.rows.items known root root h.base.stored h.base.watched h.base.held (λ x m. m);
+      denied = λ x m. Contains-nil x m;
+    }))
 
-pub front-closed : (clauses : List (List ℤ)) (wanted : ℤ → Type 0) (old new decided : List ℤ) (last : Option ℤ) (place : ℕ) → place ≡ length old
-    → Leads clauses wanted old new decided last → IsClosed clauses old → IsClosed clauses (take place new)
-front-closed clauses wanted old new decided last place at h closed =
-    let e = leads-extends clauses wanted old new decided last h in
-    subst (IsClosed clauses) (sym (ap (take place) e.1 ∙ ap (λ n. take n (old ++ e.0)) at ∙ take-append_seam old e.0)) closed
+-- the root is the beginning of the trail
+pub root-front : (known : List (List ℤ)) (root : List ℤ) (s : Propagator) (count : ℕ) → count ≡ length root → IsAbove known root s
+    → take count s.trail.literals ≡ root
+root-front known root s count at h =
+    ap (take count) h.above.1 ∙ ap (λ n. take n (root ++ h.above.0)) at ∙ take-append_seam root h.above.0
 
--- the preferred literals are decided, and then the variables
-pub leads-then : (clauses : List (List ℤ)) (before : ℤ → Type 0) (variables : ℕ) (old now new decided decided' : List ℤ) (last : Option ℤ)
-    → Leads clauses before old now decided None → Leads clauses (IsVariable variables) now new decided' last
-    → Leads clauses (IsVariable variables) old new decided' last
-leads-then clauses before variables old now new decided decided' last h k =
-    leads-on clauses before (IsVariable variables) (IsVariable variables) old now new decided decided' last (λ x m. inr m) h k
+pub within-literals : (room : ℕ) (clause : List ℤ) → All (IsWithin room) clause → All IsLiteral clause
+within-literals room clause h k d inside = (h k d inside).is_literal
 
 -- ---- steps
 
-pub root-conflict : (clauses : List (List ℤ)) (trail : List ℤ) (refuted : Bool) → refuted ≡ true → IsRoot clauses trail refuted → HasConflict clauses []
-root-conflict clauses trail true e r = r
-root-conflict clauses trail false e r = absurd (false≢true e)
+pub pushed-clauses : (steps steps' : List (List ℤ)) (clause : List ℤ) → steps' ≡ steps ++ clause ∷ [] → AreClauses steps → All IsLiteral clause → AreClauses steps'
+pushed-clauses steps steps' clause e cs ls = subst AreClauses (sym e) (All-push (All IsLiteral) steps clause cs ls)
 
-pub pushed-clauses : (formula steps steps' : List (List ℤ)) (pushed clause : List ℤ) → steps' ≡ steps ++ pushed ∷ [] → pushed ≡ clause
-    → AreClauses (formula ++ steps) → All IsLiteral clause → AreClauses (formula ++ steps')
-pushed-clauses formula steps steps' pushed clause e f cs ls =
-    subst AreClauses (sym (ap (λ xs. formula ++ xs) (e ∙ ap (λ x. steps ++ x ∷ []) f) ∙ sym (append_assoc formula steps (clause ∷ []))))
-    (All-push (All IsLiteral) (formula ++ steps) clause cs ls)
-
-pub pushed-within : (steps steps' : List (List ℤ)) (pushed : List ℤ) (n limit : ℕ) → steps' ≡ steps ++ pushed ∷ [] → n ≡ length steps
+pub pushed-within : (steps steps' : List (List ℤ)) (clause : List ℤ) (n limit : ℕ) → steps' ≡ steps ++ clause ∷ [] → n ≡ length steps
     → length steps ≤ limit → n ≢ limit → length steps' ≤ limit
-pushed-within steps steps' pushed n limit e at within ne =
-    omega (arith, ap length e, length-append steps (pushed ∷ []), at, within, ne)
+pushed-within steps steps' clause n limit e at within ne =
+    omega (arith, ap length e, length-append steps (clause ∷ []), at, within, ne)
 
-pub pushed-learned : (formula steps steps' : List (List ℤ)) (pushed clause : List ℤ) → steps' ≡ steps ++ pushed ∷ [] → pushed ≡ clause
+pub pushed-learned : (formula steps steps' : List (List ℤ)) (clause : List ℤ) → steps' ≡ steps ++ clause ∷ []
     → AreLearned formula steps → IsLesson (formula ++ steps) clause → AreLearned formula steps'
-pushed-learned formula steps steps' pushed clause e f h lesson =
-    subst (AreLearned formula) (sym (e ∙ ap (λ x. steps ++ x ∷ []) f)) (learned-more formula steps clause h lesson)
+pushed-learned formula steps steps' clause e h lesson = subst (AreLearned formula) (sym e) (learned-more formula steps clause h lesson)
 
-pub ended : (formula steps log : List (List ℤ)) (limit : ℕ) (trail : List ℤ) (refuted : Bool) (pushed : List ℤ) → log ≡ steps ++ pushed ∷ []
-    → pushed ≡ [] → refuted ≡ true → IsRoot (formula ++ steps) trail refuted → AreLearned formula steps → length steps ≤ limit
+pub ended : (formula steps log : List (List ℤ)) (limit : ℕ) (s : Propagator) (pushed : List ℤ) → log ≡ steps ++ pushed ∷ []
+    → pushed ≡ [] → s.refuted ≡ true → IsReady (formula ++ steps) s → AreLearned formula steps → length steps ≤ limit → AreClauses steps
     → IsRefuted formula limit log
-ended formula steps log limit trail refuted pushed e f is root h within =
+ended formula steps log limit s pushed e f is ready h within literals =
     subst (IsRefuted formula limit) (sym (e ∙ ap (λ x. steps ++ x ∷ []) f))
-    (refuted-end formula steps limit h within (root-conflict (formula ++ steps) trail refuted is root))
+    (refuted-end formula steps limit h within (refuted-of s.refuted (HasConflict (formula ++ steps) [])
+    (IsOpen (formula ++ steps) s.trail.room s.clauses.items s.watches.pairs.items s.watches.rows.items s.watches.pending s.trail.literals) is ready) literals)

@@ -6,9 +6,8 @@ use Rattle.std.specs.Ordering.{int_eq}
 use Rattle.std.proofs.lemmas.Bool.{false≢true}
 use Rattle.std.proofs.lemmas.Bool.Decides.{Decides-int_eq}
 use Rattle.std.proofs.lemmas.List.Elements.{filter-append, All-weaker, All-contains, All-contains_itself, Contains-append_right}
-use Rattle.word_kit.specs.Formulas.{IsLiteral}
-use Rattle.unit_propagation.specs.Propagation.{HasConflict, IsTautology, Follows, without}
-use Rattle.unit_propagation.proofs.Trails.{Contains-nil, Contains-cons, conflict-more}
+use Rattle.watched_literals.specs.Propagation.{HasConflict, IsTautology, Follows, without}
+use Rattle.watched_literals.proofs.Trails.{Contains-nil, Contains-cons, conflict-more}
 
 abbrev pub AreWithin : List ℤ → List ℤ → Type 0
 AreWithin some all = (x : ℤ) → Contains some x → Contains all x
@@ -51,8 +50,8 @@ without-more literal some all h x m =
 pub within-on : (a b c : List ℤ) → AreWithin a b → AreWithin b c → AreWithin a c
 within-on a b c g h x m = h x (g x m)
 
-pub literals-within : (some all : List ℤ) → AreWithin some all → All IsLiteral all → All IsLiteral some
-literals-within some all h a = All-weaker (Contains some) IsLiteral (λ x m. All-contains IsLiteral all x a (h x m)) some (All-contains_itself some)
+pub all-within : (P : ℤ → Type 0) (some all : List ℤ) → AreWithin some all → All P all → All P some
+all-within P some all h a = All-weaker (Contains some) P (λ x m. All-contains P all x a (h x m)) some (All-contains_itself some)
 
 pub tautology-more : (some all : List ℤ) → AreWithin some all → IsTautology some → IsTautology all
 tautology-more some all h t = (t.0, h t.0 t.1, h (neg_ℤ t.0) t.2)

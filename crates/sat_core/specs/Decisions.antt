@@ -1,18 +1,17 @@
 -- What decisions lead to.
 use Rattle.std.specs.Prelude.{◌≡◌, ◌⊎◌, ◌<◌, ◌≤◌, ◌^◌, ℕ, suc, Bool, List, ℤ, pos, neg_ℤ, length, slice_index_or, false}
-use Rattle.std.specs.List.{All, Contains, list_any}
+use Rattle.std.specs.List.{Contains, list_any}
 use Rattle.std.specs.Ordering.{int_eq}
 use Rattle.std.specs.declared.option.Option.{Option}
 use Rattle.std.specs.declared.option.Option.TheVariants.{None, Some}
-use Rattle.word_kit.specs.Formulas.{IsLiteral}
-use Rattle.unit_propagation.specs.Propagation.{IsMadeTrue, HasConflict, IsTautology, without}
-use Rattle.unit_propagation.specs.Trails.{AreMadeTrue, IsConsistent, AllSettled, Extends}
+use Rattle.watched_literals.specs.Literals.{IsWithin}
+use Rattle.watched_literals.specs.Propagation.{IsMadeTrue, HasConflict, IsTautology, without}
+use Rattle.watched_literals.specs.Trails.{AreMadeTrue, IsConsistent, AllSettled, Extends}
 
 -- the trail is what the clauses make true where these literals are set to false, and no clause is false
 pub record IsClosedUnder (clauses : List (List ℤ)) (falses trail : List ℤ) : Type 0 where
   pub made : AreMadeTrue clauses falses trail
   pub consistent : IsConsistent trail
-  pub literals : All IsLiteral trail
   pub settled : AllSettled clauses trail trail
   pub denied : (literal : ℤ) → Contains falses literal → Contains trail (neg_ℤ literal)
 
@@ -20,7 +19,6 @@ pub record IsClosedUnder (clauses : List (List ℤ)) (falses trail : List ℤ) :
 -- make it true
 pub record IsGained (clauses : List (List ℤ)) (clause : List ℤ) (literal : ℤ) : Type 0 where
   pub inside : Contains clause literal
-  pub literals : All IsLiteral clause
   pub plain : ¬ IsTautology clause
   pub conflict : HasConflict clauses clause
   pub quiet : ¬ HasConflict clauses (without literal clause)
@@ -29,9 +27,9 @@ pub record IsGained (clauses : List (List ℤ)) (clause : List ℤ) (literal : �
 abbrev pub IsAssigned : List ℤ → ℤ → Type 0
 IsAssigned trail literal = Contains trail literal ⊎ Contains trail (neg_ℤ literal)
 
--- the numbers of the list that are literals
-abbrev pub IsLiteralOf : List ℤ → ℤ → Type 0
-IsLiteralOf numbers literal = Contains numbers literal × IsLiteral literal
+-- the numbers of the list that are literals for which there is room
+abbrev pub IsLiteralOf : ℕ → List ℤ → ℤ → Type 0
+IsLiteralOf room numbers literal = Contains numbers literal × IsWithin room literal
 
 -- the variables from 1 to this one that literals can name
 abbrev pub IsVariable : ℕ → ℤ → Type 0

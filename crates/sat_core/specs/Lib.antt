@@ -1,4 +1,4 @@
 pub mod Lessons
 pub mod Verdicts
 pub mod Decisions
-pub mod Found
+pub mod Searching

@@ -1,6 +1,6 @@
 -- When a verdict may be given on a formula.
 use Rattle.std.specs.Prelude.{◌≡◌, ◌≤◌, ◌++◌, ◌∷◌, ℕ, zero, suc, Bool, false, List, [], ℤ, length, slice_index_or}
-use Rattle.word_kit.specs.Formulas.{Satisfies}
+use Rattle.word_kit.specs.Formulas.{Satisfies, AreClauses}
 use Rattle.word_kit.specs.declared.formulas.Formula.{Formula}
 use Rattle.refute_check.specs.Refutations.{IsRefutation}
 use Rattle.sat_core.specs.Lessons.{AreLessons, AreDifferent}
@@ -26,11 +26,13 @@ pub record AreLearned (formula steps : List (List ℤ)) : Type 0 where
 pub record IsRefuted (formula : List (List ℤ)) (limit : ℕ) (steps : List (List ℤ)) : Type 0 where
   pub refutation : IsRefutation formula steps
   pub learned : (before : List (List ℤ)) × (steps ≡ before ++ [] ∷ []) × (length before ≤ limit) × AreLearned formula before
+  pub literals : AreClauses steps
 
 -- exactly `limit` learned steps
 pub record IsSpent (formula : List (List ℤ)) (limit : ℕ) (steps : List (List ℤ)) : Type 0 where
   pub count : length steps ≡ limit
   pub learned : AreLearned formula steps
+  pub literals : AreClauses steps
 
 abbrev pub IsVerdict : Formula → ℕ → Verdict → Type 0
 IsVerdict formula limit (Model values) = IsModel formula values

@@ -2,11 +2,11 @@
 //! as were allowed, each of which is a step towards a refutation.
 #![tactic(auto)]
 
-mod conflicts;
-mod deciding;
+mod analysis;
+mod minimizing;
 mod order;
+mod search;
 mod solving;
-mod tightening;
 mod values;
 mod verdict;
 

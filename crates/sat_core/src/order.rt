@@ -1,48 +1,112 @@
 //! In which order variables are decided, and which value is tried first. No promise rests on it.
 use std::alloc::Global;
+use watched_literals::Propagator;
 use word_kit::NoMemory;
 
-/// The literal of a variable that is decided first, and how often the variable was seen in conflicts of late.
+/// What a conflict adds to the score of each variable that it was found by.
+const BUMP: u64 = 1 << 20;
+
+/// How many clauses are learned before older conflicts count half.
+const DECAY_INTERVAL: usize = 16;
+
+/// The literal of a variable that is decided first, how much the variable was seen in conflicts of late, and whether it was
+/// since the variables were ranked.
 #[derive(Clone, Copy)]
 struct Preference {
     score: u64,
     literal: i32,
+    is_seen: bool,
 }
 
-/// A preference for each variable, by number.
+impl Preference {
+    /// Variables of less rank are decided first: those of a higher score, and of one score those of smaller numbers.
+    fn rank(&self) -> (u64, u32) {
+        (u64::MAX - self.score, self.literal.unsigned_abs())
+    }
+}
+
+/// A preference for each variable, by number, and the last order of the variables.
 #[derive(Drop)]
 pub struct Order {
     preferences: Vec<Preference>,
+    ranked: Vec<usize>,
+    learned: usize,
+}
+
+/// Where the preference of the literal's variable stands.
+fn index_of(literal: i32) -> usize {
+    (literal.unsigned_abs() as usize).wrapping_sub(1)
 }
 
 impl Order {
     /// All variables alike, and false first.
     pub fn new(alloc: Global, variables: u32) -> Result<Order, NoMemory> {
         let mut preferences = Vec::new(alloc);
+        let mut ranked = Vec::new(alloc);
         let mut literal = 0i32;
         for _ in 0..variables.min(i32::MAX as u32) {
             literal = literal.wrapping_sub(1);
-            preferences.push(Preference { score: 0, literal })?;
+            ranked.push(index_of(literal))?;
+            preferences.push(Preference {
+                score: 0,
+                literal,
+                is_seen: false,
+            })?;
         }
-        Ok(Order { preferences })
+        Ok(Order {
+            preferences,
+            ranked,
+            learned: 0,
+        })
     }
 
-    /// The literals that are decided one after the other: those of the highest scores first.
-    pub fn literals(&self, alloc: Global) -> Result<Vec<i32>, NoMemory> {
-        let mut sorted = Vec::from_slice(alloc, self.preferences.as_slice())?;
-        sorted.sort_by_key(|preference| u64::MAX - preference.score)?;
+    /// The preferences of the variables that were seen since the last ranking, or of the others, in the order of that.
+    fn seen(&self, alloc: Global, is_seen: bool) -> Result<Vec<Preference>, NoMemory> {
+        let mut found = Vec::new(alloc);
+        for index in &self.ranked {
+            if let Some(preference) = self.preferences.get(*index) {
+                if preference.is_seen == is_seen {
+                    found.push(*preference)?;
+                }
+            }
+        }
+        Ok(found)
+    }
+
+    /// The literals that are decided one after the other: those of the highest scores first. Variables that weren't seen are in
+    /// order still, so the second sort is one merge.
+    pub fn literals(&mut self, alloc: Global) -> Result<Vec<i32>, NoMemory> {
+        let mut sorted = self.seen(alloc, true)?;
+        sorted.sort_by_key(|preference| preference.rank())?;
+        sorted.append(&mut self.seen(alloc, false)?)?;
+        sorted.sort_by_key(|preference| preference.rank())?;
+        self.rank(alloc, &sorted)
+    }
+
+    /// Ranks the variables in this order, and answers their literals.
+    fn rank(&mut self, alloc: Global, sorted: &[Preference]) -> Result<Vec<i32>, NoMemory> {
         let mut literals = Vec::new(alloc);
-        for preference in &sorted {
+        self.ranked.clear();
+        for preference in sorted {
+            let index = index_of(preference.literal);
+            self.ranked.push(index)?;
             literals.push(preference.literal)?;
+            if let Some(ranked) = self.preferences.get_mut(index) {
+                ranked.is_seen = false;
+            }
         }
         Ok(literals)
     }
 
+    fn preference(&mut self, literal: i32) -> Option<&mut Preference> {
+        self.preferences.get_mut(index_of(literal))
+    }
+
     /// The variable was seen in a conflict.
     pub fn bump(&mut self, literal: i32) {
-        let index = (literal.unsigned_abs() as usize).wrapping_sub(1);
-        if let Some(preference) = self.preferences.get_mut(index) {
-            preference.score = preference.score.saturating_add(1);
+        if let Some(preference) = self.preference(literal) {
+            preference.score = preference.score.saturating_add(BUMP);
+            preference.is_seen = true;
         }
     }
 
@@ -51,18 +115,25 @@ impl Order {
         for literal in clause {
             self.bump(*literal);
         }
+        self.learned = self.learned.saturating_add(1);
+        if self.learned % DECAY_INTERVAL == 0 {
+            self.decay();
+        }
     }
 
-    /// The literal is tried before its opposite.
-    pub fn prefer(&mut self, literal: i32) {
-        let index = (literal.unsigned_abs() as usize).wrapping_sub(1);
-        if let Some(preference) = self.preferences.get_mut(index) {
-            preference.literal = literal;
+    /// The values that variables have now are tried first, where they were not settled at the root.
+    pub fn keep_values(&mut self, propagator: &Propagator, root: usize) {
+        for place in root..propagator.len() {
+            if let Some(literal) = propagator.literal(place) {
+                if let Some(preference) = self.preference(literal) {
+                    preference.literal = literal;
+                }
+            }
         }
     }
 
     /// Older conflicts count half.
-    pub fn fade(&mut self) {
+    fn decay(&mut self) {
         for preference in self.preferences.iter_mut() {
             preference.score /= 2;
         }

@@ -89,6 +89,50 @@ fn useless_clauses_are_not_learned(rt: HostRuntime) -> Result<(), NoMemory> {
     Ok(())
 }
 
+// The carry is true where two of the three literals are.
+fn push_majority(
+    lists: &mut Vec<[i32; 3]>,
+    carry: i32,
+    literals: [i32; 3],
+) -> Result<(), NoMemory> {
+    let [one, other, last] = literals;
+    for pair in [[one, other], [one, last], [other, last]] {
+        let [left, right] = pair;
+        lists.push([carry.wrapping_neg(), left, right])?;
+        lists.push([carry, left.wrapping_neg(), right.wrapping_neg()])?;
+    }
+    Ok(())
+}
+
+// Of two numbers of 24 bits each is below the other, as a chain of carries tells it: variable 49 is the false first carry.
+fn both_below(alloc: Global) -> Result<Vec<[i32; 3]>, NoMemory> {
+    let mut lists = Vec::new(alloc);
+    lists.push([-49, -49, -49])?;
+    let mut below = 49i32;
+    let mut above = 49i32;
+    let mut bit = 1i32;
+    for _ in 0..24 {
+        let twin = bit.wrapping_add(24);
+        let carry = bit.wrapping_add(49);
+        let twin_carry = bit.wrapping_add(73);
+        push_majority(&mut lists, carry, [bit.wrapping_neg(), twin, below])?;
+        push_majority(&mut lists, twin_carry, [bit, twin.wrapping_neg(), above])?;
+        below = carry;
+        above = twin_carry;
+        bit = bit.wrapping_add(1);
+    }
+    lists.push([below, below, below])?;
+    lists.push([above, above, above])?;
+    Ok(lists)
+}
+
+#[test]
+fn chains_of_carries_are_refuted_within_fifty_steps(rt: HostRuntime) -> Result<(), NoMemory> {
+    let lists = both_below(rt.alloc())?;
+    assert!(rt; refuting(rt.alloc(), &lists, 50)?.is_some());
+    Ok(())
+}
+
 #[test]
 fn opposite_units_need_no_step(rt: HostRuntime) -> Result<(), NoMemory> {
     assert!(rt; refuting(rt.alloc(), &[[1, 1, 1], [-1, -1, -1]], 0)? == Some(1));

@@ -5,5 +5,5 @@ use Rattle.sat_core.proofs.values.values.Goals as goal
 
 pub loop-index-preserved : goal.loop-index-preserved
 loop-index-preserved c =
-    subst (AreRead c.args.trail.now.keys (c.loop-index.index + 1)) (sym c.in_ok-push.ensures.items)
-    (read-more c.args.trail.now.keys c.loop-index.index c.loop-index.items.items c.is_true.result c.is_true.ensures c.loop-index.invariant)
+    subst (AreRead c.args.propagator.now.trail.literals (c.loop-index.index + 1)) (sym c.in_ok-push.ensures.items)
+    (read-more c.args.propagator.now.trail.literals c.loop-index.index c.loop-index.items.items c.is_true.result c.is_true.ensures c.loop-index.invariant)

@@ -2,4 +2,4 @@ use Rattle.sat_core.specs.Decisions.{AreRead}
 use Rattle.sat_core.proofs.values.values.Given as goal
 
 abbrev pub invariant-loop-index : goal.invariant-loop-index
-invariant-loop-index l = AreRead l.trail.keys l.index l.items.items
+invariant-loop-index l = AreRead l.propagator.trail.literals l.index l.items.items

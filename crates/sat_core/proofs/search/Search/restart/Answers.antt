@@ -1,0 +1,14 @@
+use Rattle.std.proofs.Common.{◌∙◌, ap, refl}
+use Rattle.sat_core.specs.Searching.{known}
+use Rattle.sat_core.proofs.search.Search.restart.Goals as goal
+
+pub returns-clause-restarts : goal.returns-clause-restarts
+returns-clause-restarts c = record {
+  formula = refl;
+  steps = refl;
+  room = c.restart.ensures.room;
+  bare = ap (λ v. v.items) c.replace.ensures.after ∙ c.new.ensures.items;
+  trail = c.restart.ensures.literals;
+  above = λ literals at h. c.restart.ensures.above (known c.args.self.now) literals at h;
+  ready = λ literals at h. c.restart.ensures.ready (known c.args.self.now) literals at h;
+}

@@ -1,6 +1,0 @@
-use Rattle.std.proofs.Common.{◌≡◌, take}
-use Rattle.unit_propagation.specs.Propagation.{without}
-use Rattle.sat_core.proofs.tightening.without.Given as goal
-
-abbrev pub invariant-loop-other : goal.invariant-loop-other
-invariant-loop-other l = l.rest.items ≡ without l.literal (take l.other-index l.clause)

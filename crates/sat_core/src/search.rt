@@ -1,0 +1,114 @@
+//! The state of a search: literals that are assumed one after the other, with all that follows by unit propagation.
+ghost use Rattle.std.specs.Prelude.{◌≡◌, ◌<◌, ◌^◌, ◌∷◌, [], pos, IfOk};
+ghost use Rattle.word_kit.specs.Formulas.{IsFormula};
+ghost use Rattle.sat_core.specs.Decisions.{IsLiteralOf, IsVariable};
+ghost use Rattle.sat_core.specs.Searching.{IsSearching, IsStart, Reaches};
+
+use crate::order::Order;
+use std::alloc::Global;
+use watched_literals::{Propagator, opposite};
+use word_kit::{Clause, Formula, NoMemory};
+
+/// The variables that literals can name are those up to this one.
+pub const LAST_VARIABLE: u32 = 2_147_483_647;
+
+/// A formula, the clauses that were learned from it, the literals that follow, the opposites of those that were assumed, and
+/// the order in which variables are decided.
+#[derive(Drop)]
+pub struct Search<'a> {
+    pub formula: &'a Formula,
+    pub steps: Vec<Clause>,
+    pub propagator: Propagator,
+    pub assumed: Vec<i32>,
+    pub order: Order,
+}
+
+/// The literal that is true where the variable is.
+pub fn literal_of(variable: u32) -> i32
+    requires above { 0 < variable }
+    requires below { variable < 2 ^ 31 }
+    ensures { result ≡ pos variable }
+{
+    variable as i32
+}
+
+impl<'a> Search<'a> {
+    /// Nothing is assumed, and nothing is learned.
+    pub fn new(alloc: Global, formula: &'a Formula) -> Result<Search<'a>, NoMemory>
+        requires { IsFormula formula.now }
+        ensures { IfOk result (IsStart formula.now) }
+    {
+        let room = 2 * formula.variables.min(LAST_VARIABLE) as usize + 2;
+        let propagator = Propagator::over(alloc, formula.clauses.as_slice(), room)?;
+        let order = Order::new(alloc, formula.variables)?;
+        Ok(Search {
+            formula,
+            steps: Vec::new(alloc),
+            propagator,
+            assumed: Vec::new(alloc),
+            order,
+        })
+    }
+
+    /// Makes the literal true, if it has no value yet, with what follows. Where a clause becomes false, answers the opposite of
+    /// the literal. A number that is no literal of the formula's variables is passed over.
+    fn assume(&mut self, literal: i32) -> Result<Option<i32>, NoMemory>
+        requires { IsSearching self.old }
+        ensures { IfOk result (λ last. Reaches (IsLiteralOf self.old.propagator.trail.room (literal ∷ [])) self.old self.new last) }
+    {
+        if !self.propagator.is_within(literal) {
+            return Ok(None);
+        }
+        let negated = opposite(literal);
+        if self.propagator.holds(literal) || self.propagator.holds(negated) {
+            return Ok(None);
+        }
+        self.assumed.push(negated)?;
+        if self.propagator.assume(literal)? {
+            return Ok(Some(negated));
+        }
+        Ok(None)
+    }
+
+    /// Assumes the literals one after the other, until a clause is false.
+    pub fn assume_all(&mut self, literals: &[i32]) -> Result<Option<i32>, NoMemory>
+        requires { IsSearching self.old }
+        ensures { IfOk result (λ last. Reaches (IsLiteralOf self.old.propagator.trail.room literals.now) self.old self.new last) }
+    {
+        for literal in literals {
+            let last = self.assume(*literal)?;
+            if last.is_some() {
+                return Ok(last);
+            }
+        }
+        Ok(None)
+    }
+
+    /// Assumes all variables that literals can name, until a clause is false.
+    pub fn assume_variables(&mut self) -> Result<Option<i32>, NoMemory>
+        requires { IsSearching self.old }
+        ensures { IfOk result (λ last. Reaches (IsVariable self.old.formula.now.variables) self.old self.new last) }
+    {
+        for index in 0..self.formula.variables.min(LAST_VARIABLE) {
+            let literal = literal_of(index + 1);
+            let last = self.assume(literal)?;
+            if last.is_some() {
+                return Ok(last);
+            }
+        }
+        Ok(None)
+    }
+
+    /// Decides variables until a clause is false or each variable has a value, the preferred literals first.
+    pub fn decide(&mut self, preferred: &[i32]) -> Result<Option<i32>, NoMemory>
+        requires { IsSearching self.old }
+        ensures { IfOk result (λ last. Reaches (IsVariable self.old.formula.now.variables) self.old self.new last) }
+    {
+        let last = self.assume_all(preferred)?;
+        if last.is_some() {
+            return Ok(last);
+        }
+        let last = self.assume_variables()?;
+        Ok(last)
+    }
+}

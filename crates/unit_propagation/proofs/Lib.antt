@@ -1,3 +1,0 @@
-pub mod Trails
-pub mod Indexes
-pub mod Roots

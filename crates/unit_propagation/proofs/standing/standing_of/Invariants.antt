@@ -1,6 +1,0 @@
-use Rattle.std.proofs.Common.{take}
-use Rattle.unit_propagation.specs.Trails.{Leaves}
-use Rattle.unit_propagation.proofs.standing.standing_of.Given as goal
-
-abbrev pub invariant-loop-literal : goal.invariant-loop-literal
-invariant-loop-literal l = Leaves l.trail.keys (take l.literal-index l.clause) l.left

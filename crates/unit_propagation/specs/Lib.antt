@@ -1,3 +1,0 @@
-pub mod Propagation
-pub mod Trails
-pub mod Indexes

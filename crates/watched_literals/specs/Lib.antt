@@ -1,0 +1,6 @@
+pub mod Propagation
+pub mod Trails
+pub mod Literals
+pub mod Watches
+pub mod Propagators
+pub mod Numbers

@@ -1,0 +1,14 @@
+//! Unit propagation with two watched literals a clause: what clauses make true, and whether a clause follows from them. Values,
+//! places and reasons of literals stand in arrays.
+#![tactic(auto)]
+
+mod lists;
+mod numbering;
+mod propagator;
+mod standing;
+mod trail;
+mod watches;
+
+pub use numbering::Numbering;
+pub use propagator::Propagator;
+pub use trail::opposite;

@@ -1,0 +1,307 @@
+//! Known clauses, what they make true, and whether another clause follows from them.
+ghost use Rattle.std.specs.Prelude.{◌≡◌, ◌≢◌, true, None, Some, take, slice_get, slice_index_or, IfSome, ◌≤◌, ◌<◌, ◌+◌, ◌*◌, ◌^◌, ◌++◌, ◌∷◌, [], List, ℕ, ℤ, pos, length, IfOk, OnOk};
+ghost use Rattle.std.specs.Bool.{Decides};
+ghost use Rattle.std.specs.List.{All, Contains, list_any};
+ghost use Rattle.std.specs.Ordering.{int_eq};
+ghost use Rattle.word_kit.specs.Formulas.{IsLiteral};
+ghost use Rattle.watched_literals.specs.Propagation.{Follows};
+ghost use Rattle.watched_literals.specs.Trails.{Denies};
+ghost use Rattle.watched_literals.specs.Literals.{IsWithin, AreReasoned, clause_at};
+ghost use Rattle.watched_literals.specs.Watches.{IsStore, IsPair, AllWatched};
+ghost use Rattle.watched_literals.specs.Propagators.{IsReady, IsTried, IsAbove, IsComplete, Spreads};
+
+use crate::lists::WatchList;
+use crate::standing::{Standing, standing_of};
+use crate::trail::{Trail, code, opposite};
+use crate::watches::{Pair, Watches, list};
+use std::alloc::Global;
+use word_kit::{Clause, NoMemory};
+
+/// Known clauses that are watched, the literals that the known clauses make true by unit propagation, and whether a known
+/// clause is false.
+#[derive(Drop)]
+pub struct Propagator {
+    alloc: Global,
+    clauses: Vec<Clause>,
+    watches: Watches,
+    trail: Trail,
+    refuted: bool,
+}
+
+/// Makes the opposites of the clause's literals true, until one of the literals is true.
+fn deny(clause: &[i32], trail: &mut Trail) -> Result<bool, NoMemory>
+    requires { All (IsWithin trail.old.room) clause.now }
+    ensures room { trail.new.room ≡ trail.old.room }
+    ensures reasons { OnOk result ((clauses : List (List ℤ)) → AreReasoned clauses trail.old → AreReasoned clauses trail.new) }
+    ensures denies { IfOk result (λ is_true. Denies clause.now trail.old.literals trail.new.literals is_true) }
+{
+    for literal in clause {
+        if trail.holds(*literal) {
+            return Ok(true);
+        }
+        let off = opposite(*literal);
+        if !trail.holds(off) {
+            trail.push(off, None)?;
+        }
+    }
+    Ok(false)
+}
+
+/// Watches two literals of one clause more.
+fn watch(
+    alloc: Global,
+    clauses: &mut Vec<Clause>,
+    watches: &mut Watches,
+    clause: &[i32],
+    one: i32,
+    other: i32,
+) -> Result<(), NoMemory>
+    requires stored { IsStore (length watches.old.rows.items) clauses.old.items watches.old.pairs.items watches.old.rows.items (pos 0) [] }
+    requires within { All (IsWithin (length watches.old.rows.items)) clause.now }
+    requires pair { IsPair clause.now (record { one = one; other = other }) }
+    ensures clauses { OnOk result (clauses.new.items ≡ clauses.old.items ++ clause.now ∷ []) }
+    ensures pairs { OnOk result (watches.new.pairs.items ≡ watches.old.pairs.items ++ (record { one = one; other = other }) ∷ []) }
+    ensures pending { watches.new.pending ≡ watches.old.pending }
+    ensures stored { OnOk result (IsStore (length watches.old.rows.items) clauses.new.items watches.new.pairs.items watches.new.rows.items (pos 0) []) }
+{
+    let place = clauses.len();
+    let literals = Vec::from_slice(alloc, clause)?;
+    clauses.push(Clause::from(literals))?;
+    watches.pairs.push(Pair { one, other })?;
+    list(&mut watches.rows, one, place)?;
+    list(&mut watches.rows, other, place)?;
+    Ok(())
+}
+
+/// Whether setting the literals of the clause to false leads to a clause that is false.
+fn attempt(
+    clauses: &[Clause],
+    watches: &mut Watches,
+    trail: &mut Trail,
+    clause: &[i32],
+) -> Result<bool, NoMemory>
+    requires stored { IsStore trail.old.room clauses.now watches.old.pairs.items watches.old.rows.items (pos 0) [] }
+    requires idle { watches.old.pending ≡ [] }
+    requires watched { AllWatched clauses.now watches.old.pairs.items trail.old.literals trail.old.literals }
+    requires literals { All (IsWithin trail.old.room) clause.now }
+    ensures room { trail.new.room ≡ trail.old.room }
+    ensures reasons { OnOk result (AreReasoned clauses.now trail.old → AreReasoned clauses.now trail.new) }
+    ensures tried { IfOk result (λ yes. IsTried trail.old.room clauses.now clause.now watches.old.pairs.items trail.old.literals
+        watches.new.pairs.items watches.new.rows.items watches.new.pending trail.new.literals yes) }
+{
+    let visited = trail.len();
+    if deny(clause, trail)? {
+        return Ok(true);
+    }
+    let fails = watches.propagate(clauses, trail, visited)?;
+    Ok(fails)
+}
+
+impl Propagator {
+    /// No clause is known. Literals may have numbers below `room`.
+    pub fn new(alloc: Global, room: usize) -> Result<Propagator, NoMemory>
+        ensures room { IfOk result (λ s. s.trail.room ≡ room) }
+        ensures reasons { IfOk result (λ s. AreReasoned s.clauses.items s.trail) }
+        ensures ready { IfOk result (IsReady []) }
+    {
+        let mut rows = Vec::new(alloc);
+        for _number in 0..room {
+            rows.push(WatchList::new(alloc))?;
+        }
+        let trail = Trail::new(alloc, room)?;
+        Ok(Propagator {
+            alloc,
+            clauses: Vec::new(alloc),
+            watches: Watches {
+                pairs: Vec::new(alloc),
+                rows,
+                pending: WatchList::new(alloc),
+                conflict: None,
+            },
+            trail,
+            refuted: false,
+        })
+    }
+
+    /// These clauses are known, whose literals have numbers below `room`.
+    pub fn over(alloc: Global, clauses: &[Clause], room: usize) -> Result<Propagator, NoMemory>
+        requires { All (λ clause. All (IsWithin room) clause) clauses.now }
+        ensures room { IfOk result (λ s. s.trail.room ≡ room) }
+        ensures ready { IfOk result (IsReady clauses.now) }
+    {
+        let mut propagator = Propagator::new(alloc, room)?;
+        for place in 0..clauses.len() {
+            propagator.add(clauses[place].as_slice())?;
+        }
+        Ok(propagator)
+    }
+
+    /// Adds a clause to the known ones.
+    pub fn add(&mut self, clause: &[i32]) -> Result<(), NoMemory>
+        requires ready { (known : List (List ℤ)) × IsReady known self.old }
+        requires literals { All (IsWithin self.old.trail.room) clause.now }
+        ensures room { self.new.trail.room ≡ self.old.trail.room }
+        ensures reasons { OnOk result (AreReasoned self.old.clauses.items self.old.trail → AreReasoned self.new.clauses.items self.new.trail) }
+        ensures ready { OnOk result ((known : List (List ℤ)) → IsReady known self.old → IsReady (known ++ clause.now ∷ []) self.new) }
+    {
+        if self.refuted {
+            return Ok(());
+        }
+        match standing_of(clause, &self.trail) {
+            Standing::True => {}
+            Standing::Open(one, other) => {
+                watch(
+                    self.alloc,
+                    &mut self.clauses,
+                    &mut self.watches,
+                    clause,
+                    one,
+                    other,
+                )?;
+            }
+            Standing::Unit(literal) => {
+                let visited = self.trail.len();
+                self.trail.push(literal, None)?;
+                self.refuted = self
+                    .watches
+                    .propagate(self.clauses.as_slice(), &mut self.trail, visited)?;
+            }
+            Standing::False => {
+                self.refuted = true;
+            }
+        }
+        Ok(())
+    }
+
+    /// Whether the clause follows from the known ones.
+    pub fn follows(&mut self, clause: &[i32]) -> Result<bool, NoMemory>
+        requires ready { (known : List (List ℤ)) × IsReady known self.old }
+        requires literals { All (IsWithin self.old.trail.room) clause.now }
+        ensures room { self.new.trail.room ≡ self.old.trail.room }
+        ensures follows { IfOk result (λ yes. (known : List (List ℤ)) → IsReady known self.old → Decides yes (Follows known clause.now)) }
+        ensures reasons { OnOk result (AreReasoned self.old.clauses.items self.old.trail → AreReasoned self.new.clauses.items self.new.trail) }
+        ensures ready { OnOk result ((known : List (List ℤ)) → IsReady known self.old → IsReady known self.new) }
+    {
+        if self.refuted {
+            return Ok(true);
+        }
+        let root = self.trail.len();
+        let follows = attempt(
+            self.clauses.as_slice(),
+            &mut self.watches,
+            &mut self.trail,
+            clause,
+        )?;
+        self.trail.truncate(root);
+        Ok(follows)
+    }
+
+    /// Makes true a literal that has no value, and what follows, and says whether a clause is false.
+    pub fn assume(&mut self, literal: i32) -> Result<bool, NoMemory>
+        requires ready { (known : List (List ℤ)) × (root : List ℤ) × IsAbove known root self.old }
+        requires complete { IsComplete self.old }
+        requires literal { IsWithin self.old.trail.room literal }
+        requires fresh { ¬ Contains self.old.trail.literals literal }
+        ensures room { self.new.trail.room ≡ self.old.trail.room }
+        ensures reasons { OnOk result (AreReasoned self.old.clauses.items self.old.trail → AreReasoned self.new.clauses.items self.new.trail) }
+        ensures above { OnOk result ((known : List (List ℤ)) (root : List ℤ) → IsAbove known root self.old → IsAbove known root self.new) }
+        ensures complete { IfOk result (λ fails. fails ≢ true → IsComplete self.new) }
+        ensures spreads { IfOk result (λ fails. (known : List (List ℤ)) (root : List ℤ) → IsAbove known root self.old
+            → Spreads known (self.old.trail.literals ++ literal ∷ []) self.new.trail.literals fails) }
+    {
+        let visited = self.trail.len();
+        self.trail.push(literal, None)?;
+        let fails = self
+            .watches
+            .propagate(self.clauses.as_slice(), &mut self.trail, visited)?;
+        Ok(fails)
+    }
+
+    /// Goes back to the first `count` literals, where these are the root.
+    pub fn restart(&mut self, count: usize)
+        ensures room { self.new.trail.room ≡ self.old.trail.room }
+        ensures literals { self.new.trail.literals ≡ take count self.old.trail.literals }
+        ensures reasons { AreReasoned self.old.clauses.items self.old.trail → AreReasoned self.new.clauses.items self.new.trail }
+        ensures ready { (known : List (List ℤ)) (root : List ℤ) → count ≡ length root → IsAbove known root self.old → IsReady known self.new }
+        ensures above { (known : List (List ℤ)) (root : List ℤ) → count ≡ length root → IsAbove known root self.old → IsAbove known root self.new }
+    {
+        self.trail.truncate(count);
+    }
+
+    /// How many literals are true.
+    pub fn len(&self) -> usize
+        ensures { result ≡ length self.now.trail.literals }
+    {
+        self.trail.len()
+    }
+
+    /// Whether a known clause is false where nothing is assumed.
+    pub fn is_refuted(&self) -> bool
+        ensures { result ≡ self.now.refuted }
+    {
+        self.refuted
+    }
+
+    /// Whether the literal is true.
+    pub fn holds(&self, literal: i32) -> bool
+        requires { IsWithin self.now.trail.room literal }
+        ensures { result ≡ list_any (int_eq literal) self.now.trail.literals }
+    {
+        self.trail.holds(literal)
+    }
+
+    /// Whether the literal and its opposite have numbers for which there is room.
+    pub fn is_within(&self, literal: i32) -> bool
+        ensures { Decides result (IsWithin self.now.trail.room literal) }
+    {
+        literal != 0
+            && literal != i32::MIN
+            && code(literal) < self.trail.room()
+            && code(opposite(literal)) < self.trail.room()
+    }
+
+    /// The literal at this place of the trail.
+    pub fn literal(&self, place: usize) -> Option<i32>
+        ensures { result ≡ slice_get self.now.trail.literals place }
+    {
+        if place < self.trail.len() {
+            Some(self.trail.get(place))
+        } else {
+            None
+        }
+    }
+
+    /// Where the literal stands on the trail, if it is true.
+    pub fn place_of(&self, literal: i32) -> Option<usize>
+        ensures { IfSome result (λ place. slice_get self.now.trail.literals place ≡ Some literal) }
+    {
+        if self.is_within(literal) {
+            self.trail.place_of(literal)
+        } else {
+            None
+        }
+    }
+
+    /// The clause that made the literal at this place of the trail true, or no literals.
+    pub fn reason(&self, place: usize) -> &[i32]
+        ensures { result.now ≡ clause_at self.now.clauses.items (slice_index_or self.now.trail.reasons place None) }
+    {
+        self.literals_at(self.trail.reason_at(place))
+    }
+
+    /// The clause that became false last, or no literals.
+    pub fn conflict(&self) -> &[i32]
+        ensures { result.now ≡ clause_at self.now.clauses.items self.now.watches.conflict }
+    {
+        self.literals_at(self.watches.conflict)
+    }
+
+    fn literals_at(&self, place: Option<usize>) -> &[i32]
+        ensures { result.now ≡ clause_at self.now.clauses.items place }
+    {
+        match place {
+            Some(place) if place < self.clauses.len() => self.clauses[place].as_slice(),
+            _ => &[],
+        }
+    }
+}
