@@ -38,7 +38,7 @@ use Rattle.laid_code.proofs.Decoding.{join_bytes}
 use Rattle.laid_code.proofs.Lengths.{bytes_length}
 use Rattle.laid_code.proofs.Laid.{LaidAt}
 use Rattle.laid_code.proofs.Cut.{NoneBetween, one_more, in_list, block_is_short}
-use Rattle.laid_code.proofs.Rows.{is_map, IsStraightWord, IsFlowingWord, straight_tile, straight_leads, Kind, straight as straight_kind, flowing, kind_of}
+use Rattle.laid_code.proofs.Rows.{is_map, IsStraightWord, straight_tile, straight_leads, Kind, straight as straight_kind, flowing, kind_of}
 use Rattle.symbolic_tiles.proofs.PlaceLaws.{programs_write_held}
 
 -- ops before other items

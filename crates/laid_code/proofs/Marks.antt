@@ -1,5 +1,5 @@
 -- What tiles say of their marks is what the layout asks of them.
-use Rattle.std.proofs.Common.{◌≡◌, ℕ, List, [], ◌∷◌, Option, Some, None, inl, inr, refl, ◌∙◌}
+use Rattle.std.proofs.Common.{◌≡◌, ℕ, List, [], ◌∷◌, Some, None, inl, inr, refl, ◌∙◌}
 use Rattle.ia_codec.specs.Spelling.{condition_number}
 use Rattle.ia_codec.specs.declared.op.Condition.{Condition}
 use Rattle.ia_codec.specs.declared.op.Condition.TheVariants.{Below, NotBelow, Equal, NotEqual, NotAbove, Above, Sign, NotSign, Less, NotLess, NotGreater, Greater}

@@ -1,9 +1,8 @@
 -- What tiles need of the instructions that translation is built for.
-use Rattle.std.proofs.Common.{◌≡◌, ℕ, ◌≤◌, Bool, true, false, cond, eqb, List, [], ◌∷◌, length, Some, inl, inr, refl, ap, ◌∙◌, subst, arith}
+use Rattle.std.proofs.Common.{◌≡◌, ℕ, ◌≤◌, Bool, true, false, [], ◌∷◌, length, Some, refl, ap, ◌∙◌, subst, arith}
 use Rattle.ppc_isa.specs.Legal.{IsLegal}
 use Rattle.ppc_isa.specs.Map.{IsMap}
 use Rattle.ppc_isa.specs.declared.instr.Instr.{Instr}
-use Rattle.ia_codec.specs.declared.op.Op.{Op}
 use Rattle.runs.specs.Machine.{Outcome, Goes, Asks, Ends}
 use Rattle.machines.specs.Memory.{Rights}
 use Rattle.machines.specs.Guest.{Guest, behind, acts, effect_of}

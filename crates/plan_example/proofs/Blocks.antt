@@ -83,7 +83,7 @@ straight_adds : (n : ℕ) → n < 2 ^ 16 → IsStraightWord (adds n)
 straight_adds n small = record { straight = refl; few = omega arith; does = λ area. tiles_do_rows (adds n) (legal_adds n small) tt no_registers area is_map }
 
 tile_placeable : (n : ℕ) → n < 2 ^ 16 → ArePlaceable (alu_tile (adds n) no_registers)
-tile_placeable n small = plain_laid (alu_tile (adds n) no_registers) (Edge (next_address 0) ∷ []) (items-laid (adds n) 0 true _ (inl tt) (legal_adds n small) refl)
+tile_placeable n small = plain_laid (alu_tile (adds n) no_registers) (Edge (next_address 0) ∷ []) (items-laid (Some (adds n)) 0 true _ (legal_adds n small) refl)
 
 module _ (reading : ℕ → Option Instr) (ops : List ℕ → Option Fetched) (reads_words : ReadsWords reading) (reads_ops : ReadsOps ops) (moves : MovesKeep) (plans : PlansStand) (page : IsHomePage area (rights_of program) (narrow_rights translation)) where
   -- the moves of r3

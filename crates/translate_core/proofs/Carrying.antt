@@ -1,5 +1,5 @@
 -- What is put together of a program's words, code and file.
-use Rattle.std.proofs.Common.{◌≡◌, ℕ, ◌+◌, ◌*◌, ◌<◌, ◌≤◌, List, length, slice_index, Option, Some, None, refl, sym, ap, ◌∙◌, subst, arith}
+use Rattle.std.proofs.Common.{◌≡◌, ℕ, ◌+◌, ◌*◌, ◌<◌, ◌≤◌, List, length, slice_index, Option, Some, None, sym, ap, ◌∙◌, subst, arith}
 use Rattle.space.specs.declared.program.Kind.TheVariants.{Ia32}
 use Rattle.space.specs.declared.program.Program.{Program}
 use Rattle.branch_table.specs.declared.code.Code.{Code}
