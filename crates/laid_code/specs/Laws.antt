@@ -56,16 +56,16 @@ IsBlockOrOff s w = Begins s w ⊎ (IsOffCode s w × (s.target w ≡ s.hold))
 abbrev pub BlocksStand : Type 0
 BlocksStand =
     (reading : ℕ → Option Instr) (ops : List ℕ → Option Fetched) (P Q : Program) (first entry : ℕ) (words : List ℕ) (decoded : List (Option Instr)) (area : ℕ) (table : List ℕ) →
-    ReadsWords reading → ReadsOps ops → HasWords P first words → AreDecodedAs words decoded → HasCodeFor Q first entry decoded area table → (w : ℕ) → IsBlockOrOff (setting_of reading ops P Q first area table) w
+    ReadsWords reading → ReadsOps ops → HasWords P first words → AreDecodedAs words decoded → HasCodeFor Q first entry words decoded area table → (w : ℕ) → IsBlockOrOff (setting_of reading ops P Q first area table) w
 
 -- `hold` is a jump to itself.
 abbrev pub HoldStands : Type 0
 HoldStands =
-    (reading : ℕ → Option Instr) (ops : List ℕ → Option Fetched) (P Q : Program) (first entry : ℕ) (decoded : List (Option Instr)) (area : ℕ) (table : List ℕ) →
-    ReadsOps ops → HasCodeFor Q first entry decoded area table → JumpsTo (setting_of reading ops P Q first area table) (code_start area) (code_start area)
+    (reading : ℕ → Option Instr) (ops : List ℕ → Option Fetched) (P Q : Program) (first entry : ℕ) (words : List ℕ) (decoded : List (Option Instr)) (area : ℕ) (table : List ℕ) →
+    ReadsOps ops → HasCodeFor Q first entry words decoded area table → JumpsTo (setting_of reading ops P Q first area table) (code_start area) (code_start area)
 
 -- The table leads to the block of each code word, and elsewhere nothing but to `hold`.
 abbrev pub TablesStand : Type 0
 TablesStand =
     (reading : ℕ → Option Instr) (ops : List ℕ → Option Fetched) (P Q : Program) (first entry : ℕ) (words : List ℕ) (decoded : List (Option Instr)) (area : ℕ) (table : List ℕ) →
-    ReadsOps ops → HasWords P first words → AreDecodedAs words decoded → HasCodeFor Q first entry decoded area table → HasTableOf (setting_of reading ops P Q first area table) table → HasTable (setting_of reading ops P Q first area table)
+    ReadsOps ops → HasWords P first words → AreDecodedAs words decoded → HasCodeFor Q first entry words decoded area table → HasTableOf (setting_of reading ops P Q first area table) table → HasTable (setting_of reading ops P Q first area table)
