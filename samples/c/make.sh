@@ -10,7 +10,7 @@ flags="-static -nostdlib -ffreestanding -fno-pic -no-pie -mcpu=powerpc -msoft-fl
 for source in *.c; do
     name=${source%.c}
     link=; [ -f "$name.ld" ] && link="-Wl,-T,$name.ld"
-    input=/dev/null; [ -f "$name.in" ] && input=$name.in
+    input=/dev/null; [ -f "bin/$name.in" ] && input=bin/$name.in
     for level in O0 O1 O2 Os; do
         # shellcheck disable=SC2086
         powerpc-linux-gnu-gcc $flags -$level $link -o "bin/$name.$level" "$source" -lgcc

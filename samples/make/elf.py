@@ -11,17 +11,21 @@ HEADER = 52
 PROGRAM_HEADER = 32
 
 READ, WRITE, EXECUTE = 4, 2, 1
+LOADED, GNU_STACK = 1, 0x6474E551
 POWERPC, I386 = 20, 3
 
 
 @dataclass(frozen=True)
 class Segment:
-    """Bytes at an address, and zeros behind them up to `size`. Without bytes the address is a page's."""
+    """Bytes at an address, and zeros behind them up to `size`. Without bytes the address is a page's. With `headers`
+    it begins with the file, so that its first bytes are the headers'."""
 
     at: int
     data: bytes
     flags: int
     size: int = 0
+    headers: bool = False
+    type: int = LOADED
 
 
 def headers_size(segments: int) -> int:
@@ -64,9 +68,11 @@ def elf(machine: int, entry: int, segments: list[Segment]) -> bytes:
     )
     places = offsets(segments)
     for segment, place in zip(segments, places):
-        size = max(segment.size, len(segment.data))
+        before = place if segment.headers else 0
+        at, filled = segment.at - before, len(segment.data) + before
+        size = max(segment.size, filled)
         header += struct.pack(
-            order + "8I", 1, place, segment.at, segment.at, len(segment.data), size, segment.flags, PAGE
+            order + "8I", segment.type, place - before, at, at, filled, size, segment.flags, PAGE
         )
     file = bytearray(header)
     for segment, place in zip(segments, places):

@@ -1,5 +1,5 @@
 -- The tiles that move CR by fields and combine its bits (this project's own).
-use Rattle.std.specs.Prelude.{ℕ, zero, suc, ◌-◌, ◌*◌, ◌/◌, ◌%◌, ◌^◌, cond, List, [], ◌∷◌, ◌++◌}
+use Rattle.std.specs.Prelude.{ℕ, zero, suc, ◌-◌, ◌*◌, ◌/◌, ◌%◌, ◌^◌, List, [], ◌∷◌, ◌++◌, if◌then◌else◌}
 use Rattle.word_kit.specs.Bits.{bit_of}
 use Rattle.ppc_isa.specs.declared.instr.CrLogicOp.{CrLogicOp}
 use Rattle.ppc_isa.specs.declared.instr.CrLogicOp.TheVariants.{Crand, Cror, Crxor, Crnand, Crnor, Creqv, Crandc, Crorc}
@@ -49,7 +49,7 @@ chosen_ops s f = Mov eax (Location s) ∷ ShiftBy Shr eax (28 - 4 * f) ∷ AluIm
 
 unfoldable pub mtcrf_below : ℕ → ℕ → ℕ → List SymbolicOp
 mtcrf_below zero s fxm = []
-mtcrf_below (suc n) s fxm = cond (bit_of fxm n) (chosen_ops s (7 - n)) [] ++ mtcrf_below n s fxm
+mtcrf_below (suc n) s fxm = (if bit_of fxm n then chosen_ops s (7 - n) else []) ++ mtcrf_below n s fxm
 
 abbrev pub mtcrf_ops : ℕ → ℕ → List SymbolicOp
 mtcrf_ops s fxm = mtcrf_below 8 s fxm

@@ -1,5 +1,5 @@
 -- The tiles of arithmetic and logic with an immediate (this project's own). Results go through eax.
-use Rattle.std.specs.Prelude.{ℕ, ◌*◌, Bool, true, false, eqb, List, [], ◌∷◌}
+use Rattle.std.specs.Prelude.{ℕ, ◌*◌, Bool, true, false, List, [], ◌∷◌, ◌==◌}
 use Rattle.word_kit.specs.Words.{sign_extended}
 use Rattle.ppc_isa.specs.declared.instr.ImmediateOp.{ImmediateOp}
 use Rattle.ppc_isa.specs.declared.instr.ImmediateOp.TheVariants.{Addi, Addis, Addic, AddicRecord, Subfic, Mulli}
@@ -21,8 +21,8 @@ base_ops true d a v = MovImmediate eax v ∷ Put d eax ∷ []
 base_ops false d a v = Mov eax (Location a) ∷ AluImmediate Add eax v ∷ Put d eax ∷ []
 
 abbrev pub immediate_ops : ImmediateOp → ℕ → ℕ → ℕ → List SymbolicOp
-immediate_ops Addi d a imm = base_ops (eqb a 0) d a (sign_extended 16 imm)
-immediate_ops Addis d a imm = base_ops (eqb a 0) d a (65536 * imm)
+immediate_ops Addi d a imm = base_ops (a == 0) d a (sign_extended 16 imm)
+immediate_ops Addis d a imm = base_ops (a == 0) d a (65536 * imm)
 immediate_ops Addic d a imm = Mov eax (Location a) ∷ AluImmediate Add eax (sign_extended 16 imm) ∷ Put d eax ∷ SetByte Below ca ∷ []
 immediate_ops AddicRecord d a imm = Mov eax (Location a) ∷ AluImmediate Add eax (sign_extended 16 imm) ∷ Put d eax ∷ SetByte Below ca ∷ []
 immediate_ops Subfic d a imm = MovImmediate eax (sign_extended 16 imm) ∷ Alu Sub eax (Location a) ∷ Put d eax ∷ SetByte NotBelow ca ∷ []

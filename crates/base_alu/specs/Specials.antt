@@ -1,5 +1,5 @@
 -- The tiles of moves from and to XER, LR and CTR (this project's own).
-use Rattle.std.specs.Prelude.{ℕ, ◌+◌, cond, eqb, List, [], ◌∷◌}
+use Rattle.std.specs.Prelude.{ℕ, ◌+◌, List, [], ◌∷◌, if◌then◌else◌, ◌==◌}
 use Rattle.ppc_isa.specs.Locations.{ca, so, ov, xc}
 use Rattle.ia_codec.specs.declared.op.AluOp.TheVariants.{Or, And}
 use Rattle.ia_codec.specs.declared.op.ShiftOp.TheVariants.{Shl, Shr}
@@ -16,7 +16,7 @@ mfxer_ops d =
 
 -- by the number of the special register: XER is 1; LR is 8 and location 32, CTR 9 and 33
 abbrev pub mfspr_ops : ℕ → ℕ → List SymbolicOp
-mfspr_ops d spr = cond (eqb spr 1) (mfxer_ops d) (Mov eax (Location (24 + spr)) ∷ Put d eax ∷ [])
+mfspr_ops d spr = if spr == 1 then mfxer_ops d else Mov eax (Location (24 + spr)) ∷ Put d eax ∷ []
 
 abbrev pub mtxer_ops : ℕ → List SymbolicOp
 mtxer_ops s =
@@ -27,4 +27,4 @@ mtxer_ops s =
     ∷ AluImmediate And eax 127 ∷ PutByte xc eax ∷ []
 
 abbrev pub mtspr_ops : ℕ → ℕ → List SymbolicOp
-mtspr_ops s spr = cond (eqb spr 1) (mtxer_ops s) (Mov eax (Location s) ∷ Put (24 + spr) eax ∷ [])
+mtspr_ops s spr = if spr == 1 then mtxer_ops s else Mov eax (Location s) ∷ Put (24 + spr) eax ∷ []

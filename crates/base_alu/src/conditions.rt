@@ -1,6 +1,6 @@
 //! CR by fields and by bits.
 
-ghost use Rattle.std.specs.Prelude.{◌≡◌, ◌<◌, ◌≤◌, ◌^◌, ◌-◌, ◌%◌, cond, [], IfOk};
+ghost use Rattle.std.specs.Prelude.{◌≡◌, ◌<◌, ◌≤◌, ◌^◌, ◌-◌, ◌%◌, if◌then◌else◌, [], IfOk};
 ghost use Rattle.base_alu.specs.Conditions.{get_bit as get_ops, cr_operation, set_bit as set_ops, cr_ops, mcrf_ops, next_field as next_ops, mfcr_ops, chosen_ops, mtcrf_ops};
 
 use crate::recording::{CR, Ops};
@@ -133,7 +133,7 @@ pub fn move_from_cr(alloc: Global, d: u8) -> Ops
 // Field f from rS, where it is chosen.
 fn put_field(alloc: Global, chosen: bool, s: u8, f: u8) -> Ops
     requires { f < 8 }
-    ensures { IfOk result (λ ops. ops.items ≡ cond chosen (chosen_ops s f) []) }
+    ensures { IfOk result (λ ops. ops.items ≡ (if chosen then chosen_ops s f else [])) }
 {
     if !chosen {
         return Ok(Vec::new(alloc));

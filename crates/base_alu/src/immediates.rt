@@ -1,6 +1,6 @@
 //! Arithmetic and logic with an immediate.
 
-ghost use Rattle.std.specs.Prelude.{◌≡◌, eqb, IfOk};
+ghost use Rattle.std.specs.Prelude.{◌≡◌, ◌==◌, IfOk};
 ghost use Rattle.machines.specs.Guest.{logic_word};
 ghost use Rattle.base_alu.specs.Immediates.{base_ops, immediate_ops, logic_alu, logic_immediate_ops};
 
@@ -14,7 +14,7 @@ use symbolic_tiles::SymbolicOperand::{Location, Temporary};
 
 // rD is (rA|0) and the number.
 fn base(alloc: Global, d: u8, a: u8, number: u32) -> Ops
-    ensures { IfOk result (λ ops. ops.items ≡ base_ops (eqb a 0) d a number) }
+    ensures { IfOk result (λ ops. ops.items ≡ base_ops (a == 0) d a number) }
 {
     if a == 0 {
         return Ok(vec![in alloc; MovImmediate(EAX, number), Put(d, EAX)]?);

@@ -1,6 +1,6 @@
 -- The tile of each instruction with an access (this project's own): ops that do to the places of its locations, under any
 -- register map, and to the guest's memory, what the instruction does to the locations and the memory.
-use Rattle.std.specs.Prelude.{Bool, ◌≡◌, ◌-◌, true, false, eqb, List, [], ◌++◌}
+use Rattle.std.specs.Prelude.{Bool, ◌≡◌, ◌-◌, true, false, List, [], ◌++◌, ◌==◌}
 use Rattle.ppc_isa.specs.declared.map.Map.{Map}
 use Rattle.ppc_isa.specs.declared.instr.Instr.{Instr}
 use Rattle.ppc_isa.specs.declared.instr.MultipleOp.TheVariants.{Lmw, Stmw}
@@ -31,16 +31,16 @@ IsBuilt i = has_access i ≡ true
 
 -- Their tiles, told without a map: the address, the access, and what is put into registers.
 abbrev pub symbolic_tile : Instr → List SymbolicOp
-symbolic_tile (instr.Load op d a imm) = immediate_address (eqb a 0) a imm ++ (load_ops op ++ put_ops false d a)
+symbolic_tile (instr.Load op d a imm) = immediate_address (a == 0) a imm ++ (load_ops op ++ put_ops false d a)
 symbolic_tile (instr.LoadUpdate op d a imm) = immediate_address false a imm ++ (load_update_ops op ++ put_ops true d a)
-symbolic_tile (instr.LoadIndexed op d a b) = indexed_address (eqb a 0) a b ++ (load_indexed_ops op ++ put_ops false d a)
+symbolic_tile (instr.LoadIndexed op d a b) = indexed_address (a == 0) a b ++ (load_indexed_ops op ++ put_ops false d a)
 symbolic_tile (instr.LoadIndexedUpdate op d a b) = indexed_address false a b ++ (load_indexed_update_ops op ++ put_ops true d a)
-symbolic_tile (instr.Store op s a imm) = immediate_address (eqb a 0) a imm ++ (store_ops op s ++ update_ops false a)
+symbolic_tile (instr.Store op s a imm) = immediate_address (a == 0) a imm ++ (store_ops op s ++ update_ops false a)
 symbolic_tile (instr.StoreUpdate op s a imm) = immediate_address false a imm ++ (store_update_ops op s ++ update_ops true a)
-symbolic_tile (instr.StoreIndexed op s a b) = indexed_address (eqb a 0) a b ++ (store_indexed_ops op s ++ update_ops false a)
+symbolic_tile (instr.StoreIndexed op s a b) = indexed_address (a == 0) a b ++ (store_indexed_ops op s ++ update_ops false a)
 symbolic_tile (instr.StoreIndexedUpdate op s a b) = indexed_address false a b ++ (store_indexed_update_ops op s ++ update_ops true a)
-symbolic_tile (instr.Multiple Lmw d a imm) = immediate_address (eqb a 0) a imm ++ lmw_ops (32 - d) d
-symbolic_tile (instr.Multiple Stmw s a imm) = immediate_address (eqb a 0) a imm ++ stmw_ops (32 - s) s
+symbolic_tile (instr.Multiple Lmw d a imm) = immediate_address (a == 0) a imm ++ lmw_ops (32 - d) d
+symbolic_tile (instr.Multiple Stmw s a imm) = immediate_address (a == 0) a imm ++ stmw_ops (32 - s) s
 symbolic_tile _ = []
 
 -- their ops under a map

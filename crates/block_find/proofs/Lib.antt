@@ -7,3 +7,4 @@ pub mod LeaderSets
 pub mod Gathering
 pub mod SingleRuns
 pub mod Standing
+pub mod Counting

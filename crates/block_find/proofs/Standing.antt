@@ -28,28 +28,28 @@ module _ (first : ℕ) (words : List ℕ) (run : Run) (within : run.at + run.cou
   }
 
 module _ (first entry : ℕ) (words : List ℕ) (blocks : Blocks) (are : AreBlocksOf first entry words blocks) where
-  abbrev leader_run : ℕ → Run
+  abbrev pub leader_run : ℕ → Run
   leader_run i = slice_index_or are.runs i (past (length words))
 
-  abbrev singles : List Run
+  abbrev pub singles : List Run
   singles = singles_of are.leads (length words)
 
-  of_singles : AreSingles are.leads singles (length words)
+  pub of_singles : AreSingles are.leads singles (length words)
   of_singles = are_singles are.leads (length words)
 
-  leader_count : length blocks.leaders ≡ length are.runs
+  pub leader_count : length blocks.leaders ≡ length are.runs
   leader_count = ap (λ (bs : List Block). length bs) are.leaders_are ∙ length-map are.runs (block_of first words)
 
-  single_count : length blocks.singles ≡ length singles
+  pub single_count : length blocks.singles ≡ length singles
   single_count = ap (λ (bs : List Block). length bs) are.singles_are ∙ length-map singles (block_of first words)
 
   all_count : length (all_blocks blocks) ≡ length are.runs + length singles
   all_count = let a = length-append blocks.leaders blocks.singles in let b = leader_count in let c = single_count in omega (arith, a, b, c)
 
-  leader_is : (i : ℕ) → i < length are.runs → block_at blocks.leaders i ≡ block_of first words (leader_run i)
+  pub leader_is : (i : ℕ) → i < length are.runs → block_at blocks.leaders i ≡ block_of first words (leader_run i)
   leader_is i lt = ap (λ (bs : List Block). block_at bs i) are.leaders_are ∙ get_or-map (block_of first words) are.runs i (past (length words)) (record { at = 0; words = [] }) lt
 
-  single_is : (i : ℕ) → i < length singles → block_at blocks.singles i ≡ block_of first words (run_at singles i)
+  pub single_is : (i : ℕ) → i < length singles → block_at blocks.singles i ≡ block_of first words (run_at singles i)
   single_is i lt = ap (λ (bs : List Block). block_at bs i) are.singles_are ∙ get_or-map (block_of first words) singles i (past 0) (record { at = 0; words = [] }) lt
 
   leader_among : (i : ℕ) → i < length are.runs → block_at (all_blocks blocks) i ≡ block_of first words (leader_run i)

@@ -1,5 +1,6 @@
 -- What the blocks say of the code words.
 use Rattle.std.specs.Prelude.{◌≡◌, ℕ, ◌+◌, ◌*◌, ◌<◌, ◌≤◌, List, [], ◌++◌, length, slice_index, slice_index_or}
+use Rattle.std.specs.List.{sum_by}
 use Rattle.block_find.specs.Branches.{IsFlow, Names, address_of}
 use Rattle.block_find.specs.Blocks.{most, AreBlocksOf}
 use Rattle.block_find.specs.declared.block.Block.{Block}
@@ -45,3 +46,14 @@ abbrev pub LeadsToLeaders : Type 0
 LeadsToLeaders = (first entry : ℕ) (words : List ℕ) (blocks : Blocks) → AreBlocksOf first entry words blocks → (k : ℕ) → k < length words
     → ((p : ℕ) → p < length words → Names first words p k → BeginsLeader first blocks k)
     × ((i : ℕ) → i < length blocks.leaders → (block_at blocks.leaders i).at + 4 * length (block_at blocks.leaders i).words ≡ address_of first k → BeginsLeader first blocks k)
+
+abbrev pub word_count : Block → ℕ
+word_count block = length block.words
+
+-- the leaders' blocks have all the code words between them, and the singles no more
+pub record HaveFewWords (words : List ℕ) (blocks : Blocks) : Type 0 where
+  pub leaders : sum_by word_count blocks.leaders ≡ length words
+  pub singles : sum_by word_count blocks.singles ≤ length words
+
+abbrev pub AllHaveFewWords : Type 0
+AllHaveFewWords = (first entry : ℕ) (words : List ℕ) (blocks : Blocks) → AreBlocksOf first entry words blocks → HaveFewWords words blocks

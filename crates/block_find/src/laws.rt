@@ -3,7 +3,7 @@ ghost use Rattle.std.specs.Prelude.{◌≡◌, ℕ, ◌↔◌, List, Bool};
 ghost use Rattle.space.specs.declared.program.Program.{Program};
 ghost use Rattle.code_words.specs.Words.{HasWords};
 ghost use Rattle.block_find.specs.Blocks.{AreLeaders, IsIn};
-ghost use Rattle.block_find.specs.Laws.{EachBeginsOne, EachIsBlock, LeadsToLeaders};
+ghost use Rattle.block_find.specs.Laws.{AllHaveFewWords, EachBeginsOne, EachIsBlock, LeadsToLeaders};
 
 /// A program has one list of code words.
 pub fn one_list_of_words()
@@ -30,4 +30,9 @@ pub fn each_begins_one()
 /// A leader's block begins with each code word that a branch names, and behind each leader's block.
 pub fn leads_to_leaders()
     ensures { LeadsToLeaders }
+{}
+
+/// The leaders' blocks have as many words as the program has code words, and the singles no more.
+pub fn have_few_words()
+    ensures { AllHaveFewWords }
 {}

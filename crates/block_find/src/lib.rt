@@ -16,7 +16,8 @@ pub use branches::named_place;
 pub use code::Code;
 pub use flow_words::is_flow_word;
 pub use laws::{
-    each_begins_one, each_is_block, leads_to_leaders, one_leader_set, one_list_of_words,
+    each_begins_one, each_is_block, have_few_words, leads_to_leaders, one_leader_set,
+    one_list_of_words,
 };
 pub use program::blocks;
 pub use spans::Run;

@@ -6,3 +6,4 @@ pub mod Leaps
 pub mod Moves
 pub mod Flows
 pub mod Meeting
+pub mod MoveCodes

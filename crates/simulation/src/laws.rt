@@ -2,6 +2,7 @@
 
 ghost use Rattle.simulation.specs.Setting.{Setting};
 ghost use Rattle.simulation.specs.Relation.{IsTranslation, MeetingIsBounded, MeetingAdvances, HoldHolds, MeetingSettles, StartAgrees, MovesKeep};
+ghost use Rattle.simulation.specs.Moves.{MoveCodesMove};
 
 use runs::agreement;
 use std::marker::Brand;
@@ -17,6 +18,11 @@ pub fn keeps_meeting()
 /// to the other, and so are no ops where the GPR is dead.
 pub fn moves_keep()
     ensures { MovesKeep }
+{}
+
+/// The code of a possible move of a register map is a move from the one map to the other.
+pub fn move_codes_move()
+    ensures { MoveCodesMove }
 {}
 
 /// From `hold` the host goes on for ever and makes no call.

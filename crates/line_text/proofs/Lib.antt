@@ -1,0 +1,5 @@
+pub mod Cuts
+pub mod Hexadecimals
+pub mod Lines
+pub mod Grammars
+pub mod Reading

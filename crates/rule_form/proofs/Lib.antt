@@ -1,0 +1,12 @@
+pub mod Separate
+pub mod DeadNames
+pub mod SpelledBytes
+pub mod ItemWords
+pub mod Windows
+pub mod RuleGrammar
+pub mod Printed
+pub mod WordFields
+pub mod ClauseWords
+pub mod Growing
+pub mod Ends
+pub mod Arrays

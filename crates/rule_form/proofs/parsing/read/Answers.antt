@@ -1,0 +1,40 @@
+use Rattle.std.proofs.Common.{◌≡◌, ◌<◌, ◌∷◌, length, ap, arith, length-append}
+use Rattle.std.proofs.lemmas.Grind.{common_steps}
+use Rattle.line_text.proofs.Reading.{bad-unknown, bad-place, read-on, bad-rest}
+use Rattle.rule_form.specs.Said.{item_of}
+use Rattle.rule_form.specs.Reached.{state_of}
+use Rattle.rule_form.proofs.RuleGrammar.{rules, is-grammar}
+use Rattle.rule_form.proofs.Ends.{end-found, end-fault}
+use Rattle.rule_form.proofs.parsing.read.Goals as goal
+
+pub returns-in_default-2-clause-fault : goal.returns-in_default-2-clause-fault
+returns-in_default-2-clause-fault c =
+    bad-unknown rules is-grammar c.args.text.now c.loop-line.rest.now c.in-Some.line.now c.in-Some.after.now (state_of c.loop-line.progress) c.loop-line.n
+    c.loop-line.invariant.whole c.in-Some.ensures.0 c.in-Some.ensures.1 (rw c.in_default-2.is at c.in_ok-said.ensures)
+
+pub returns-in_default-3-clause-fault : goal.returns-in_default-3-clause-fault
+returns-in_default-3-clause-fault c =
+    let s = rw c.in-Some-2.is at c.in_ok-said.ensures in
+    bad-place rules is-grammar c.args.text.now c.loop-line.rest.now c.in-Some.line.now c.in-Some.after.now (state_of c.loop-line.progress) c.loop-line.n (item_of c.in-Some-2.said)
+    c.loop-line.invariant.whole c.in-Some.ensures.0 c.in-Some.ensures.1 s.1 s.2 (rw c.in_default-3.is at c.in_ok-further.ensures)
+
+pub loop-line-preserved : goal.loop-line-preserved
+loop-line-preserved c =
+    let s = rw c.in-Some-2.is at c.in_ok-said.ensures in
+    let k = rw c.in-Some-3.is at c.in_ok-further.ensures in
+    record {
+      reached = k.0;
+      whole = read-on rules is-grammar c.args.text.now c.loop-line.rest.now c.in-Some.after.now c.in-Some.line.now (state_of c.loop-line.progress) (state_of c.in-Some-3.further) c.loop-line.n (item_of c.in-Some-2.said)
+          c.loop-line.invariant.whole s.1 k.2 k.1 c.in-Some.ensures.1 s.2;
+      few = let e = ap length c.in-Some.ensures.1 in let f = length-append c.in-Some.line.now (10 ∷ c.in-Some.after.now) in omega (arith, e, f, c.loop-line.invariant.few);
+    }
+
+pub returns-then-not-is_empty-clause-fault : goal.returns-then-not-is_empty-clause-fault
+returns-then-not-is_empty-clause-fault c =
+    let some : 0 < length c.loop-line.rest.now = grind (arith, common_steps) in
+    bad-rest rules is-grammar c.args.text.now c.loop-line.rest.now (state_of c.loop-line.progress) c.loop-line.n c.loop-line.invariant.whole c.in_default.ensures some
+
+pub returns : goal.returns
+returns c =
+    let none : length c.loop-line.rest.now ≡ 0 = grind (arith, common_steps) in
+    record { found = tt; fault = end-fault c.args.text.now c.loop-line.rest.now c.loop-line.progress c.loop-line.n c.loop-line.invariant.whole none c.in_default-progress.not-Between }

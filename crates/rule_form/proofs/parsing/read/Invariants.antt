@@ -1,0 +1,15 @@
+use Rattle.std.proofs.Common.{◌+◌, ◌≤◌, length}
+use Rattle.line_text.proofs.Reading.{IsRead}
+use Rattle.rule_form.specs.Reached.{state_of, IsReached}
+use Rattle.rule_form.proofs.RuleGrammar.{rules}
+use Rattle.rule_form.proofs.parsing.read.Given as goal
+
+abbrev pub invariant-loop-line : goal.invariant-loop-line
+invariant-loop-line l = record {
+  reached : IsReached l.progress;
+  whole : IsRead rules l.text l.rest (state_of l.progress) l.n;
+  few : l.n + length l.rest ≤ length l.text + 1;
+}
+
+abbrev pub decreases-loop-line : goal.decreases-loop-line
+decreases-loop-line l = length l.rest

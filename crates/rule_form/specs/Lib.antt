@@ -1,0 +1,9 @@
+pub mod Words
+pub mod Texts
+pub mod Machine
+pub mod Said
+pub mod Slots
+pub mod Names
+pub mod Partial
+pub mod Reached
+pub mod Faults

@@ -1,0 +1,36 @@
+//! Why a text is no rule text.
+
+use std::alloc::AllocError;
+use thiserror::Error;
+use word_kit::NoMemory;
+
+/// Why a text is no rule text.
+#[derive(Debug, Drop, Error)]
+pub enum TextFault {
+    /// The first line, counted from 1, with which no text begins; where the text ends early, the line after the last.
+    #[error("line {0} is bad")]
+    BadLine(u32),
+    /// There was no memory for the rules, or the text has 2^32 - 1 bytes or more.
+    #[error("out of memory")]
+    Memory(NoMemory),
+}
+
+impl From<AllocError> for TextFault {
+    ghost use Rattle.rule_form.specs.Faults.{IsMemory};
+
+    ghost from_gives = { λ _ e. IsMemory e };
+
+    fn from(_error: AllocError) -> TextFault {
+        TextFault::Memory(NoMemory)
+    }
+}
+
+impl From<NoMemory> for TextFault {
+    ghost use Rattle.rule_form.specs.Faults.{IsMemory};
+
+    ghost from_gives = { λ _ e. IsMemory e };
+
+    fn from(error: NoMemory) -> TextFault {
+        TextFault::Memory(error)
+    }
+}

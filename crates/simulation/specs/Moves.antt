@@ -1,0 +1,22 @@
+-- The code of a move of a register map, in a plan.
+use Rattle.std.specs.Prelude.{◌≡◌, ℕ, List, [], ◌∷◌, Option, Some, None}
+use Rattle.ppc_isa.specs.declared.map.Map.{Map}
+use Rattle.ppc_isa.specs.Map.{IsMap}
+use Rattle.ia_codec.specs.declared.op.Op.{Op}
+use Rattle.reg_map.specs.declared.moves.Move.{Move}
+use Rattle.reg_map.specs.Moves.{IsPossible, moved_gpr, moved, is_live, move_code}
+use Rattle.machines.specs.Representation.{IsHomePage}
+use Rattle.simulation.specs.Setting.{Setting}
+use Rattle.simulation.specs.Plan.{IsMove}
+
+-- one op, or none
+abbrev pub ops_in : Option Op → List Op
+ops_in (Some op) = op ∷ []
+ops_in None = []
+
+-- By a possible move the ops lead to the map behind it and keep each value that is live at the next word, where the bits say
+-- of its GPR whether it is.
+abbrev pub MoveCodesMove : Type 0
+MoveCodesMove =
+    (s : Setting) → IsHomePage s.area s.guest s.host → (m : Map) (step : Move) (next live : ℕ) → IsMap m → IsPossible m step →
+    is_live live (moved_gpr m step) ≡ s.live next (moved_gpr m step) → IsMove s next m (moved m step) (ops_in (move_code m step live))
