@@ -31,7 +31,8 @@ use Rattle.code_layout.specs.Code.{word_ops, op_at, straight, items, IsLaid, ite
 use Rattle.code_layout.specs.declared.blocks.Laid.{Laid}
 use Rattle.code_layout.proofs.LaidItems.{items-laid}
 use Rattle.laid_code.specs.Bytes.{HasBytes}
-use Rattle.laid_code.specs.Items.{ArePlaceable, AreMarked}
+use Rattle.laid_code.specs.Items.{ArePlaceable}
+use Rattle.symbolic_tiles.specs.Marks.{AreMarked}
 use Rattle.laid_code.specs.Plans.{plain, plan_items, last_map, AreRight}
 use Rattle.laid_code.specs.Instance.{setting_of, HasWords}
 use Rattle.laid_code.proofs.Decoding.{join_bytes}

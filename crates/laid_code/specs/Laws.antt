@@ -14,9 +14,10 @@ use Rattle.simulation.specs.Setting.{Setting, HasTable, IsOffCode, JumpsTo}
 use Rattle.simulation.specs.Plan.{PlanStep, EdgeAt, LeapAt, BlockAt, Begins}
 use Rattle.code_layout.specs.Places.{Moves}
 use Rattle.code_layout.specs.Code.{IsLaid, items_bytes}
+use Rattle.symbolic_tiles.specs.Marks.{AreMarked}
 use Rattle.laid_code.specs.Bytes.{HasBytes, RunsCode}
 use Rattle.laid_code.specs.Instance.{code_start, setting_of, HasWords, AreDecodedAs, HasCodeFor, HasTableOf}
-use Rattle.laid_code.specs.Items.{AreMarked, labels_of, edges_of, leaps_of, places_of, AreSwitches, ArePlaced}
+use Rattle.laid_code.specs.Items.{labels_of, edges_of, leaps_of, places_of, AreSwitches, ArePlaced}
 use Rattle.laid_code.specs.Plans.{plan_items, last_map, AreRight}
 
 -- Where an op's spelling stands, the op stands.
