@@ -7,13 +7,11 @@ use Rattle.elf_load.specs.Area.{IsHostArea}
 use Rattle.elf_load.specs.Faults.{IsProgramOf}
 use Rattle.elf_emit.specs.File.{elf_file}
 use Rattle.elf_emit.specs.Translation.{FitsArea, file_segments, translated}
-use Rattle.code_layout.specs.Built.{IsBuiltWord}
 use Rattle.code_layout.specs.Layout.{IsCodeFor}
 use Rattle.code_words.specs.Words.{HasWords, first_of}
 use Rattle.ppc_isa.specs.declared.instr.Instr.{Instr}
 use Rattle.code_layout.specs.Decoded.{AreDecodedAs}
 use Rattle.agreement.specs.Written.{Carries}
-use Rattle.translate_core.specs.Built.{IsBuiltAt, IsAllBuilt, IsFirstUnbuilt}
 
 -- the code begins with `hold`
 some_bytes : (first entry : ℕ) (words : List ℕ) (decoded : List (Option Instr)) (area : ℕ) (table code : List ℕ) → IsCodeFor first entry words decoded area table code → 0 < length code
@@ -53,21 +51,3 @@ carries P area first entry code words words' decoded bytes file here same has ar
   whole = subst (λ (b : List ℕ). b ≡ elf_file code.start (file_segments P code area)) (sym made) whole;
   loaded = subst (λ (b : List ℕ). IsProgramOf Ia32 b (translated P code area)) (sym made) loaded;
 }
-
--- the first word that isn't built, by its place among the words
-module _ (P : Program) (words : List ℕ) (has : HasWords P (first_of P) words) where
-  pub none_unbuilt : ((k : ℕ) → k < length words → IsBuiltWord (slice_index words k)) → IsAllBuilt P
-  none_unbuilt built a on =
-      let k = has.only a on in
-      subst (IsBuiltAt P) (sym k.2) (subst IsBuiltWord (sym (has.each k.0 k.1)) (built k.0 k.1))
-
-  pub one_unbuilt : (k : ℕ) → k < length words → (IsBuiltWord (slice_index words k) → ⊥) → ((j : ℕ) → j < k → IsBuiltWord (slice_index words j)) → IsFirstUnbuilt P (first_of P + 4 * k)
-  one_unbuilt k lt unbuilt before = record {
-    here = has.here k lt;
-    unbuilt = λ built. unbuilt (subst IsBuiltWord (has.each k lt) built);
-    before = λ b lower on.
-        let j = has.only b on in
-        let e = j.2 in
-        let earlier : j.0 < k = omega (arith, lower, e) in
-        subst (IsBuiltAt P) (sym j.2) (subst IsBuiltWord (sym (has.each j.0 j.1)) (before j.0 earlier));
-  }
