@@ -24,7 +24,7 @@ pub record IsLaidFor (P : Program) (area : ℕ) (code : Code) : Type 0 where
   pub are_decoded : AreDecodedAs words decoded
   pub begins : P.entry ≡ first_of P + 4 * entry
   pub within : entry < length words
-  pub blocks : IsCodeFor (first_of P) entry decoded area code.entries code.bytes
+  pub blocks : IsCodeFor (first_of P) entry words decoded area code.entries code.bytes
   pub count : length code.entries ≡ length words
   pub start : code.start ≡ slice_index code.entries entry
   pub fits : FitsArea code

@@ -11,6 +11,7 @@ mod program;
 mod spans;
 
 pub use block::{Block, BlockList, Blocks, Words};
+pub use boundaries::leaders;
 pub use branches::named_place;
 pub use code::Code;
 pub use flow_words::is_flow_word;

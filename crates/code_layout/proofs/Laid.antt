@@ -1,13 +1,13 @@
 -- Words that are laid out one behind another.
-use Rattle.std.proofs.Common.{◌≡◌, ◌≤◌, ◌<◌, ◌+◌, ◌↔◌, ℕ, suc, Bool, List, ◌∷◌, ◌++◌, length, get_or, drop, slice_index, Option, ap, sym, ◌∙◌, subst, append_assoc, drop-cons, arith}
+use Rattle.std.proofs.Common.{◌≡◌, ◌≤◌, ◌<◌, ◌+◌, ℕ, suc, Bool, List, ◌∷◌, ◌++◌, length, get_or, drop, slice_index, Option, ap, sym, ◌∙◌, subst, append_assoc, drop-cons, arith, Some, None}
 use Rattle.std.proofs.lemmas.List.{append-nil, drop_all}
 use Rattle.ppc_isa.specs.declared.instr.Instr.{Instr}
 use Rattle.symbolic_tiles.specs.declared.flow_op.FlowOp.{FlowOp}
-use Rattle.code_layout.specs.Blocks.{address_of, IsSet, code_order}
-use Rattle.code_layout.specs.Decoded.{decoded_at}
+use Rattle.code_layout.specs.Blocks.{address_of, code_order}
+use Rattle.code_layout.specs.Decoded.{IsDecodedAs, decoded_at, AreDecodedAs, IsLegalDecoded}
 use Rattle.code_layout.specs.Places.{Places, no_moves, places_in}
 use Rattle.code_layout.specs.Code.{items, items_bytes, items_length}
-use Rattle.code_layout.specs.Leaders.{IsLeader}
+use Rattle.block_find.specs.Blocks.{AreLeaders, IsIn}
 use Rattle.code_layout.specs.Layout.{laid_items, laid_bytes, code_bytes, IsCodeFor, BeginsAt}
 use Rattle.code_layout.specs.declared.blocks.Laid.{Laid}
 
@@ -41,11 +41,18 @@ unfolding laid_bytes
 laid-all words p here k order bytes whole le so = sym (append-nil bytes) ∙ ap (λ (o : List Laid). bytes ++ laid_bytes words p here o) (sym (drop_all k order le)) ∙ so
 
 -- the code is laid out in the order that the leaders make, and the table leads to its blocks
-pub code-for : (first entry : ℕ) (words : List (Option Instr)) (area : ℕ) (p : Places) (table code : List ℕ) (leaders leaders' : List Bool) (order order' order'' : List Laid) → length leaders ≡ length words → ((k : ℕ) → k < length words → IsSet leaders k ↔ IsLeader first entry words k) → leaders' ≡ leaders → order ≡ code_order leaders' → order' ≡ order → order'' ≡ order → p ≡ places_in area first table → code ≡ code_bytes words p order' → ((k : ℕ) → k < length words → BeginsAt first words no_moves (area + 0x81000 + 5) order'' k (slice_index table k)) → IsCodeFor first entry words area table code
-code-for first entry words area p table code leaders leaders' order order' order'' count each e0 e1 e2 e3 e4 laid begins = record {
+pub code-for : (first entry : ℕ) (words : List ℕ) (decoded : List (Option Instr)) (area : ℕ) (p : Places) (table code : List ℕ) (leaders leaders' : List Bool) (order order' order'' : List Laid) → length leaders ≡ length decoded → AreLeaders first entry words (IsIn leaders) → leaders' ≡ leaders → order ≡ code_order leaders' → order' ≡ order → order'' ≡ order → p ≡ places_in area first table → code ≡ code_bytes decoded p order' → ((k : ℕ) → k < length decoded → BeginsAt first decoded no_moves (area + 0x81000 + 5) order'' k (slice_index table k)) → IsCodeFor first entry words decoded area table code
+code-for first entry words decoded area p table code leaders leaders' order order' order'' count are e0 e1 e2 e3 e4 laid begins = record {
   leaders = leaders;
   count = count;
-  each = each;
-  laid = subst (λ (q : Places). code ≡ code_bytes words q (code_order leaders)) e4 (rw (← e0, ← e1, ← e2) laid);
+  are_leaders = are;
+  laid = subst (λ (q : Places). code ≡ code_bytes decoded q (code_order leaders)) e4 (rw (← e0, ← e1, ← e2) laid);
   entries = rw (← e0, ← e1, ← e3) begins;
 }
+
+legal_if : (word : ℕ) (o : Option Instr) → IsDecodedAs word o → IsLegalDecoded o
+legal_if word (Some i) h = h.legal
+legal_if word None h = tt
+
+pub all-legal : (words : List ℕ) (decoded : List (Option Instr)) → AreDecodedAs words decoded → (k : ℕ) → k < length decoded → IsLegalDecoded (decoded_at decoded k)
+all-legal words decoded are k lt = legal_if (slice_index words k) (decoded_at decoded k) (are.each k (let count = are.count in omega (arith, lt, count)))

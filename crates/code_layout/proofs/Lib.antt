@@ -1,8 +1,6 @@
 pub mod StraightTiles
 pub mod BuiltWords
-pub mod Bases
 pub mod LaidItems
-pub mod Cuts
 pub mod Leaders
 pub mod Lengths
 pub mod Laying

@@ -1,5 +1,5 @@
 -- The places of code words, their blocks, and the order in which these stand (this project's own).
-use Rattle.std.specs.Prelude.{ℕ, ◌≡◌, ◌≤◌, ◌+◌, ◌-◌, ◌*◌, ◌%◌, ◌<◌, ◌==◌, ◌&&◌, Bool, true, false, not, List, ◌++◌, map, filter, length, get_or}
+use Rattle.std.specs.Prelude.{ℕ, ◌+◌, ◌*◌, ◌<◌, ◌==◌, ◌&&◌, Bool, true, false, not, List, ◌++◌, map, filter, length, get_or}
 use Rattle.std.specs.List.{range_with_len}
 use Rattle.code_layout.specs.declared.blocks.Laid.{Laid}
 
@@ -40,20 +40,3 @@ begins_at place laid = laid.begins && (laid.place == place)
 -- how many blocks begin at a place
 unfoldable pub beginnings : ℕ → List Laid → ℕ
 beginnings place order = length (filter (begins_at place) order)
-
--- the nearest marked place at or before a place
-pub record IsNearest (marked : ℕ → Type 0) (base place : ℕ) : Type 0 where
-  pub begins : marked base
-  pub within : base ≤ place
-  pub last : (k : ℕ) → base < k → k ≤ place → marked k → ⊥
-
--- a block begins at the place, where blocks run from each marked place to the next one and are cut behind each 64
--- words: the place stands a multiple of 64 words behind the nearest marked place at or before it
-pub record IsCut (marked : ℕ → Type 0) (place : ℕ) : Type 0 where
-  pub base : ℕ
-  pub nearest : IsNearest marked base place
-  pub whole : (place - base) % 64 ≡ 0
-
--- a place at which a list holds true
-abbrev pub IsSet : List Bool → ℕ → Type 0
-IsSet list place = get_or list place false ≡ true

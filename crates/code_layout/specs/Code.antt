@@ -1,5 +1,5 @@
 -- The items of a code word, and their bytes. This project's own.
-use Rattle.std.specs.Prelude.{ℕ, ◌+◌, ◌-◌, ◌%◌, ◌^◌, ◌==◌, Bool, false, List, [], ◌∷◌, ◌++◌, map, find, length, Option, None, Some, if◌then◌else◌}
+use Rattle.std.specs.Prelude.{ℕ, ◌+◌, ◌-◌, ◌%◌, ◌^◌, ◌==◌, Bool, List, [], ◌∷◌, ◌++◌, map, find, length, Option, None, Some, if◌then◌else◌}
 use Rattle.ppc_isa.specs.declared.instr.Instr.{Instr}
 use Rattle.ia_codec.specs.Spelling.{condition_number, spelling}
 use Rattle.ia_codec.specs.declared.op.Op.{Op}
@@ -9,6 +9,7 @@ use Rattle.reg_map.specs.Registers.{eax}
 use Rattle.ia_codec.specs.declared.op.Condition.{Condition}
 use Rattle.ia_codec.specs.declared.op.Condition.TheVariants.{Below, NotBelow, Equal, NotEqual, NotAbove, Above, Sign, NotSign, Less, NotLess, NotGreater, Greater}
 pub use Rattle.reg_map.specs.Relocated.{operand_at, op_at, IsPlaceable}
+pub use Rattle.symbolic_tiles.specs.Marks.{IsLaid, is_mark}
 use Rattle.code_layout.specs.Leap.{leap_ops}
 use Rattle.code_layout.specs.Places.{no_registers, Moves, Places}
 use Rattle.ppc_isa.specs.declared.map.Map.{Map}
@@ -33,11 +34,6 @@ straight i at ends = map (λ op. Plain op) (word_ops i no_registers) ++ (if ends
 abbrev pub items : Option Instr → ℕ → Bool → List FlowOp
 items (Some i) at ends = if is_flow i then flow_tile i at no_registers else straight i at ends
 items None at ends = flows_of illegal_items no_registers
-
--- an item whose op is in the profile over each home page
-abbrev pub IsLaid : FlowOp → Type 0
-IsLaid (Plain op) = IsPlaceable op
-IsLaid _ = Unit {0}
 
 -- the bytes of ops one behind another
 abbrev pub spelled : List Op → List ℕ
@@ -92,10 +88,6 @@ item_length switch Leap = 32
 unfoldable pub items_length : (ℕ → Moves) → List FlowOp → ℕ
 items_length switch [] = 0
 items_length switch (item ∷ rest) = item_length switch item + items_length switch rest
-
-abbrev pub is_mark : FlowOp → ℕ → Bool
-is_mark (Mark here) mark = here == mark
-is_mark _ mark = false
 
 -- how many bytes stand before the first such mark; before the end where there is none
 unfoldable pub before_mark : (ℕ → Moves) → List FlowOp → ℕ → ℕ

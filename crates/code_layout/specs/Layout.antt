@@ -1,14 +1,14 @@
 -- The code of words, one behind another (this project's own).
-use Rattle.std.specs.Prelude.{◌≡◌, ℕ, ◌<◌, ◌+◌, ◌-◌, ◌^◌, ◌⊎◌, ◌↔◌, Bool, true, false, List, length, [], ◌∷◌, ◌++◌, slice_index, Option}
+use Rattle.std.specs.Prelude.{◌≡◌, ℕ, ◌<◌, ◌+◌, ◌-◌, ◌^◌, ◌⊎◌, Bool, true, false, List, length, [], ◌∷◌, ◌++◌, slice_index, Option}
 use Rattle.ppc_isa.specs.declared.instr.Instr.{Instr}
 use Rattle.ia_codec.specs.Spelling.{spelling}
 use Rattle.ia_codec.specs.declared.op.Op.TheVariants.{Jmp}
-use Rattle.code_layout.specs.Blocks.{address_of, begins_at, IsSet, code_order}
+use Rattle.code_layout.specs.Blocks.{address_of, begins_at, code_order}
 use Rattle.symbolic_tiles.specs.declared.flow_op.FlowOp.{FlowOp}
 use Rattle.code_layout.specs.Decoded.{decoded_at}
 use Rattle.code_layout.specs.Places.{Moves, no_moves, Places, places_in}
 use Rattle.code_layout.specs.Code.{items, items_bytes, items_length}
-use Rattle.code_layout.specs.Leaders.{IsLeader}
+use Rattle.block_find.specs.Blocks.{AreLeaders, IsIn}
 use Rattle.code_layout.specs.declared.blocks.Laid.{Laid}
 
 -- the items of a code word where it stands
@@ -35,9 +35,9 @@ BeginsAt first words switch here (laid ∷ order) place address =
 -- The code of a program with these code words, the first at the address `first`, whose run begins at the place `entry`,
 -- and its table. Which words are leaders says the order of the code; the table's word of a code word is the address of
 -- the block that begins there.
-pub record IsCodeFor (first entry : ℕ) (words : List (Option Instr)) (area : ℕ) (table code : List ℕ) : Type 0 where
+pub record IsCodeFor (first entry : ℕ) (words : List ℕ) (decoded : List (Option Instr)) (area : ℕ) (table code : List ℕ) : Type 0 where
   pub leaders : List Bool
-  pub count : length leaders ≡ length words
-  pub each : (k : ℕ) → k < length words → IsSet leaders k ↔ IsLeader first entry words k
-  pub laid : code ≡ code_bytes words (places_in area first table) (code_order leaders)
-  pub entries : (k : ℕ) → k < length words → BeginsAt first words no_moves (area + 0x81000 + 5) (code_order leaders) k (slice_index table k)
+  pub count : length leaders ≡ length decoded
+  pub are_leaders : AreLeaders first entry words (IsIn leaders)
+  pub laid : code ≡ code_bytes decoded (places_in area first table) (code_order leaders)
+  pub entries : (k : ℕ) → k < length decoded → BeginsAt first decoded no_moves (area + 0x81000 + 5) (code_order leaders) k (slice_index table k)

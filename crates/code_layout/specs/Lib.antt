@@ -5,5 +5,4 @@ pub mod Places
 pub mod PlacesOf
 pub mod Leap
 pub mod Code
-pub mod Leaders
 pub mod Layout

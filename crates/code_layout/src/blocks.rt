@@ -1,19 +1,10 @@
 //! The blocks of a program, and the order in which their code stands.
 
 ghost use Rattle.std.specs.Prelude.{◌≡◌, ◌≢◌, ◌≤◌, ◌<◌, ◌+◌, ◌*◌, ◌^◌, ◌↔◌, ℕ, IsTrue, IfOk, OnOk, MatchOption, Some, All, ◌++◌, true, length, vec_len, get_or, slice_index};
-ghost use Rattle.code_layout.specs.Decoded.{IsLegalDecoded, decoded_at};
-ghost use Rattle.code_layout.specs.Blocks.{address_of as address, IsAmong, IsCut, IsSet, code_order, singles, beginnings};
-ghost use Rattle.code_layout.specs.Leaders.{ends_block as ends_block_of, named_by as named_by_of, named_address as named_address_of, IsLeader};
-ghost use Rattle.ppc_isa.specs.Legal.{IsLegal};
+ghost use Rattle.code_layout.specs.Blocks.{address_of as address, IsAmong, code_order, singles, beginnings};
 
-use crate::source::Source;
-use base_flow::{is_flow, short_target, target};
-use ppc_isa::Instr;
 use std::alloc::Global;
 use word_kit::NoMemory;
-
-/// The most words of a block.
-const BLOCK_WORDS: usize = 64;
 
 /// A code word where it stands in a block.
 #[derive(Clone, Copy)]
@@ -47,94 +38,6 @@ pub fn place_at(first: u32, at: u32, count: usize) -> Option<usize>
         Some(place)
     } else {
         None
-    }
-}
-
-/// Which code words are leaders: the first one, the one at which the run begins, those that a branch
-/// names, the one behind each flow word, and the one behind a block of 64 words.
-pub fn leaders(alloc: Global, source: &Source<'_>) -> Result<Vec<bool>, NoMemory>
-    requires legal { (k : ℕ) → k < length source.now.words.now → IsLegalDecoded (decoded_at source.now.words.now k) }
-    ensures count { IfOk result (λ v. vec_len v ≡ length source.now.words.now) }
-    ensures each { IfOk result (λ v. (k : ℕ) → k < length source.now.words.now → IsSet v.items k ↔ IsLeader source.now.first source.now.entry source.now.words.now k) }
-{
-    let mut leaders = vec![in alloc; false; source.words.len()]?;
-    leaders[0] = true;
-    leaders[source.entry] = true;
-    for (place, word) in source.words.iter().enumerate() {
-        if let Some(named) = named_place(word, source, place) {
-            leaders[named] = true;
-        }
-        if ends_block(word) && place + 1 < source.words.len() {
-            leaders[place + 1] = true;
-        }
-    }
-    cut_long_blocks(&mut leaders);
-    Ok(leaders)
-}
-
-// Whether a block ends behind the word.
-fn ends_block(word: &Option<Instr>) -> bool
-    ensures { result ≡ ends_block_of word.now }
-{
-    match word {
-        Some(instr) => is_flow(instr),
-        None => true,
-    }
-}
-
-// The place of the code word that the word at a place names, where it is a branch to one.
-fn named_place(word: &Option<Instr>, source: &Source<'_>, place: usize) -> Option<usize>
-    requires legal { IsLegalDecoded word.now }
-    requires place { place < length source.now.words.now }
-    ensures { MatchOption result ((k : ℕ) → k < length source.now.words.now → named_address_of source.now.first word.now place ≢ Some (address source.now.first k)) (λ k. (k < length source.now.words.now) × (named_address_of source.now.first word.now place ≡ Some (address source.now.first k))) }
-{
-    let named = named_by(word, address_of(source.first, place))?;
-    place_at(source.first, named, source.words.len())
-}
-
-// The address that a word at an address names, where it is a branch.
-fn named_by(word: &Option<Instr>, at: u32) -> Option<u32>
-    requires { IsLegalDecoded word.now }
-    ensures { result ≡ named_by_of word.now at }
-{
-    match word {
-        Some(instr) => named_address(instr, at),
-        None => None,
-    }
-}
-
-// The address that an instruction at an address names, where it is a branch.
-fn named_address(instr: &Instr, at: u32) -> Option<u32>
-    requires { IsLegal instr.now }
-    ensures { result ≡ named_by_of (Some instr.now) at }
-{
-    match *instr {
-        Instr::Branch {
-            target: field,
-            absolute,
-            ..
-        } => Some(target(field, absolute, at)),
-        Instr::BranchConditional {
-            target: field,
-            absolute,
-            ..
-        } => Some(short_target(field, absolute, at)),
-        _ => None,
-    }
-}
-
-// Makes the word behind each block of 64 words a leader.
-fn cut_long_blocks(leaders: &mut [bool])
-    requires { IsSet leaders.old 0 }
-    ensures { (k : ℕ) → k < length leaders.new → IsSet leaders.new k ↔ IsCut (IsSet leaders.old) k }
-{
-    let mut length = 0;
-    for leader in leaders.iter_mut() {
-        if *leader || length == BLOCK_WORDS {
-            *leader = true;
-            length = 0;
-        }
-        length += 1;
     }
 }
 

@@ -25,21 +25,21 @@ pub fn entries(
     order: &[Laid],
     code: u32,
 ) -> Result<Vec<u32>, NoMemory>
-    requires legal { (k : ℕ) → k < length source.now.words.now → IsLegalDecoded (decoded_at source.now.words.now k) }
-    requires among { All (IsAmong (length source.now.words.now)) order.now }
-    requires once { (k : ℕ) → k < length source.now.words.now → beginnings k order.now ≡ 1 }
+    requires legal { (k : ℕ) → k < length source.now.decoded.now → IsLegalDecoded (decoded_at source.now.decoded.now k) }
+    requires among { All (IsAmong (length source.now.decoded.now)) order.now }
+    requires once { (k : ℕ) → k < length source.now.decoded.now → beginnings k order.now ≡ 1 }
     requires room { code + 5 + 636 * length order.now < 2 ^ 32 }
-    ensures count { IfOk result (λ v. vec_len v ≡ length source.now.words.now) }
-    ensures each { IfOk result (λ v. (k : ℕ) → k < length source.now.words.now → BeginsAt source.now.first source.now.words.now no_moves (code + 5) order.now k (slice_index v.items k)) }
+    ensures count { IfOk result (λ v. vec_len v ≡ length source.now.decoded.now) }
+    ensures each { IfOk result (λ v. (k : ℕ) → k < length source.now.decoded.now → BeginsAt source.now.first source.now.decoded.now no_moves (code + 5) order.now k (slice_index v.items k)) }
 {
-    let mut entries = vec![in alloc; 0; source.words.len()]?;
+    let mut entries = vec![in alloc; 0; source.decoded.len()]?;
     let mut at = code + HOLD_LENGTH;
     for laid in order {
         if laid.begins {
             entries[laid.place] = at;
         }
         let here = address_of(source.first, laid.place);
-        at += length(&word_items(alloc, &source.words[laid.place], here, laid.ends)?);
+        at += length(&word_items(alloc, &source.decoded[laid.place], here, laid.ends)?);
     }
     Ok(entries)
 }
@@ -51,11 +51,11 @@ pub fn code(
     order: &[Laid],
     layout: &Layout<'_>,
 ) -> Result<Vec<u8>, NoMemory>
-    requires legal { (k : ℕ) → k < length source.now.words.now → IsLegalDecoded (decoded_at source.now.words.now k) }
-    requires among { All (IsAmong (length source.now.words.now)) order.now }
+    requires legal { (k : ℕ) → k < length source.now.decoded.now → IsLegalDecoded (decoded_at source.now.decoded.now k) }
+    requires among { All (IsAmong (length source.now.decoded.now)) order.now }
     requires first { layout.now.first ≡ source.now.first }
     requires room { layout.now.code + 12 + 4128 + 636 * length order.now < 2 ^ 32 }
-    ensures bytes { IfOk result (λ v. v.items ≡ code_bytes source.now.words.now (places_of layout.now) order.now) }
+    ensures bytes { IfOk result (λ v. v.items ≡ code_bytes source.now.decoded.now (places_of layout.now) order.now) }
     ensures bound { IfOk result (λ v. vec_len v ≤ 12 + 636 * length order.now) }
 {
     let mut code = Vec::new(alloc);
@@ -67,7 +67,7 @@ pub fn code(
     )?;
     for laid in order {
         let here = address_of(source.first, laid.place);
-        let items = word_items(alloc, &source.words[laid.place], here, laid.ends)?;
+        let items = word_items(alloc, &source.decoded[laid.place], here, laid.ends)?;
         put(&mut code, &items, layout)?;
     }
     Ok(code)

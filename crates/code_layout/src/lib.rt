@@ -2,7 +2,6 @@
 #![tactic(auto)]
 
 mod blocks;
-mod built;
 mod code;
 mod decoded;
 mod layout;
@@ -10,7 +9,6 @@ mod places;
 mod program_code;
 mod source;
 
-pub use built::first_unbuilt;
 pub use decoded::decoded_words;
 pub use program_code::lay;
 pub use source::Source;

@@ -1,6 +1,6 @@
 //! The code words of a program.
 
-ghost use Rattle.std.specs.Prelude.{◌≤◌, ◌<◌, ◌+◌, ◌*◌, ◌^◌, length};
+ghost use Rattle.std.specs.Prelude.{◌≡◌, ◌≤◌, ◌<◌, ◌+◌, ◌*◌, ◌^◌, length};
 
 use ppc_isa::Instr;
 
@@ -11,9 +11,12 @@ pub struct Source<'a> {
     pub first: u32,
     /// The place among the code words of the one at which the program's run begins.
     pub entry: usize,
+    /// The code words.
+    pub words: &'a [u32],
     /// The code words, decoded: an illegal one is none.
-    pub words: &'a [Option<Instr>],
+    pub decoded: &'a [Option<Instr>],
     ghost few: { length words.now ≤ 131072 },
-    ghost room: { first + 4 * length words.now ≤ 2 ^ 32 },
+    ghost room: { first + 4 * length words.now < 2 ^ 32 },
     ghost entered: { entry < length words.now },
+    ghost each: { length decoded.now ≡ length words.now },
 }

@@ -1,5 +1,5 @@
 -- The blocks of the code, word by word: one base tile a word.
-use Rattle.std.proofs.Common.{◌≡◌, ℕ, zero, suc, ◌+◌, ◌^◌, ◌<◌, ◌≤◌, Bool, true, false, cond, List, [], ◌∷◌, ◌++◌, length, map, get_or, slice_index, All, Option, Some, None, ◌↔◌, refl, sym, ap, ◌∙◌, subst, append_assoc, arith}
+use Rattle.std.proofs.Common.{◌≡◌, ℕ, zero, suc, ◌+◌, ◌^◌, ◌<◌, ◌≤◌, Bool, true, false, cond, List, [], ◌∷◌, ◌++◌, length, map, get_or, slice_index, All, Option, Some, None, refl, sym, ap, ◌∙◌, subst, append_assoc, arith}
 use Rattle.std.specs.List.{range_with_len}
 use Rattle.std.proofs.lemmas.Bool.{false≢true}
 use Rattle.std.proofs.lemmas.List.{append-nil}
@@ -22,16 +22,17 @@ use Rattle.symbolic_tiles.specs.Row.{window_of}
 use Rattle.symbolic_tiles.specs.Flow.{Fits, FlowDoesWord, flow}
 use Rattle.simulation.specs.Setting.{Setting, IsWordAt}
 use Rattle.simulation.specs.Plan.{PlanStep, Tile, FlowTile, word_count, room, HasFewMoves}
-use Rattle.code_layout.specs.Blocks.{address_of, in_block, IsSet}
+use Rattle.code_layout.specs.Blocks.{address_of, in_block}
 use Rattle.code_layout.specs.Decoded.{IsDecodedAs, decoded_at, AreDecodedAs, IsLegalDecoded}
 use Rattle.code_layout.specs.Layout.{laid_items}
-use Rattle.code_layout.specs.Leaders.{IsLeader}
+use Rattle.block_find.specs.Blocks.{AreLeaders, IsIn}
 use Rattle.code_layout.specs.Places.{no_registers, no_moves, Places, places_in}
 use Rattle.code_layout.specs.Code.{word_ops, op_at, straight, items, IsLaid, items_bytes, item_length, items_length}
 use Rattle.code_layout.specs.declared.blocks.Laid.{Laid}
 use Rattle.code_layout.proofs.LaidItems.{items-laid}
 use Rattle.laid_code.specs.Bytes.{HasBytes}
-use Rattle.laid_code.specs.Items.{ArePlaceable, AreMarked}
+use Rattle.laid_code.specs.Items.{ArePlaceable}
+use Rattle.symbolic_tiles.specs.Marks.{AreMarked}
 use Rattle.laid_code.specs.Plans.{plain, plan_items, last_map, AreRight}
 use Rattle.laid_code.specs.Instance.{setting_of, HasWords}
 use Rattle.laid_code.proofs.Decoding.{join_bytes}
@@ -200,16 +201,16 @@ module _ (reading : ℕ → Option Instr) (ops : List ℕ → Option Fetched) (P
       let legal = legal_if (slice_index words laid.place) (decoded_at decoded laid.place) (are.each laid.place (among laid.place lt)) in
       by_decoded laid.place here (decoded_at decoded laid.place) bound laid.ends legal lt (word_at laid.place lt) le (items-laid (decoded_at decoded laid.place) (address_of first laid.place) laid.ends (laid_items first decoded laid) legal refl) h.0 rest
 
-  module _ (leaders : List Bool) (count : length leaders ≡ length decoded) (each : (k : ℕ) → k < length decoded → IsSet leaders k ↔ IsLeader first entry decoded k) (tail : List Laid) where
+  module _ (leaders : List Bool) (count : length leaders ≡ length decoded) (leads_are : AreLeaders first entry words (IsIn leaders)) (tail : List Laid) where
     -- from a word of a leader's block on, with `more` words behind it before the tail
     pub leader_block : (base more place here : ℕ) → base < length decoded → get_or leaders base false ≡ true → place + suc more ≡ length decoded → base ≤ place → NoneBetween leaders base place →
         LaidAt decoded p (code_of Q) here (map (in_block leaders) (range_with_len place (suc more)) ++ tail) → BlockFrom place here (base + 64)
     leader_block base zero place here lt leads e le none h =
         let low : place < length decoded = omega (arith, e) in
-        let short : place < base + 64 = block_is_short first entry decoded leaders each base place lt low leads none in
+        let short : place < base + 64 = block_is_short first entry words leaders leads_are base place (among base lt) (among place low) leads none in
         word_block (in_block leaders place) tail here (base + 64) low (omega (arith, short)) h (λ inner. absurd (let l = in_list leaders (place + 1) inner in omega (arith, l, e, count)))
     leader_block base (suc more) place here lt leads e le none h =
         let low : place < length decoded = omega (arith, e) in
-        let short : place < base + 64 = block_is_short first entry decoded leaders each base place lt low leads none in
+        let short : place < base + 64 = block_is_short first entry words leaders leads_are base place (among base lt) (among place low) leads none in
         word_block (in_block leaders place) (map (in_block leaders) (range_with_len (place + 1) (suc more)) ++ tail) here (base + 64) low (omega (arith, short)) h
         (λ inner. leader_block base more (place + 1) (here + items_length no_moves (laid_items first decoded (in_block leaders place))) lt leads (omega (arith, e)) (omega (arith, le)) (one_more leaders base place inner none) h.1)

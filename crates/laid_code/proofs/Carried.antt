@@ -46,7 +46,7 @@ entry_or_hold first table hold P a off on = by (a == address_of first (place_of 
     by true e = inner (place_of first a) (eqb-true a (address_of first (place_of first a)) e) (cases_lt (place_of first a) (length table))
     by false e = off
 
-module _ (reading : ℕ → Option Instr) (ops : List ℕ → Option Fetched) (P Q : Program) (first entry : ℕ) (decoded : List (Option Instr)) (area : ℕ) (table : List ℕ) (reads_ops : ReadsOps ops) (carried : HasCodeFor Q first entry decoded area table) where
+module _ (reading : ℕ → Option Instr) (ops : List ℕ → Option Fetched) (P Q : Program) (first entry : ℕ) (words : List ℕ) (decoded : List (Option Instr)) (area : ℕ) (table : List ℕ) (reads_ops : ReadsOps ops) (carried : HasCodeFor Q first entry words decoded area table) where
   abbrev s : Setting
   s = setting_of reading ops P Q first area table
 
@@ -110,7 +110,7 @@ module _ (reading : ℕ → Option Instr) (ops : List ℕ → Option Fetched) (P
       let count : length table ≡ length decoded = carried.count in
       entry_or_hold first table (code_start area) (λ t. t < 2 ^ 32) address (omega (arith, low)) (λ k lt e. entry_low k (omega (arith, lt, count)))
 
-  module _ (reads_words : ReadsWords reading) (words : List ℕ) (has : HasWords P first words) (are : AreDecodedAs words decoded) where
+  module _ (reads_words : ReadsWords reading) (has : HasWords P first words) (are : AreDecodedAs words decoded) where
     are_placed : ArePlaced s
     are_placed =
         let low : code_start area + 5 < 2 ^ 32 = hold_low in
@@ -135,7 +135,7 @@ module _ (reading : ℕ → Option Instr) (ops : List ℕ → Option Fetched) (P
         by : Found decoded p (code_of Q) carried.code.leaders single_blocks (length carried.code.leaders) k (slice_index table k) → Block k (slice_index table k) (k + 64)
         by (leading more e set h) =
             let count : length carried.code.leaders ≡ length decoded = carried.code.count in
-            leader_block reading ops P Q first entry words decoded area table reads_words has are carried.code.leaders count carried.code.each single_blocks k more k (slice_index table k) lt set (e ∙ count) (omega arith) (λ i low high. absurd (omega (arith, low, high))) h
+            leader_block reading ops P Q first entry words decoded area table reads_words has are carried.code.leaders count carried.code.are_leaders single_blocks k more k (slice_index table k) lt set (e ∙ count) (omega arith) (λ i low high. absurd (omega (arith, low, high))) h
         by (behind here h begins) =
             let one = find_single decoded p (code_of Q) single_places k (slice_index table k) here h begins in
             word_block reading ops P Q first entry words decoded area table reads_words has are (alone k) one.0 (slice_index table k) (k + 64) lt (omega arith) one.1 (λ inner. absurd (false≢true (sym inner)))
@@ -174,7 +174,7 @@ module _ (reading : ℕ → Option Instr) (ops : List ℕ → Option Fetched) (P
         by false off = inr (off_code w off, to_hold w off)
 
 pub blocks_stand : BlocksStand
-blocks_stand reading ops P Q first entry words decoded area table reads_words reads_ops has are carried w = blocks_at reading ops P Q first entry decoded area table reads_ops carried reads_words words has are w
+blocks_stand reading ops P Q first entry words decoded area table reads_words reads_ops has are carried w = blocks_at reading ops P Q first entry words decoded area table reads_ops carried reads_words has are w
 
 pub hold_stands : HoldStands
-hold_stands reading ops P Q first entry decoded area table reads_ops carried = hold_jumps reading ops P Q first entry decoded area table reads_ops carried
+hold_stands reading ops P Q first entry words decoded area table reads_ops carried = hold_jumps reading ops P Q first entry words decoded area table reads_ops carried

@@ -1,9 +1,7 @@
 -- A leader's block has at most 64 words.
-use Rattle.std.proofs.Common.{◌≡◌, ℕ, zero, suc, ◌+◌, ◌<◌, ◌≤◌, Bool, true, false, List, [], ◌∷◌, length, get_or, ◌⊎◌, ◌↔◌, Option, inl, inr, refl, sym, ◌∙◌, subst, arith}
+use Rattle.std.proofs.Common.{◌≡◌, ℕ, zero, suc, ◌+◌, ◌-◌, ◌<◌, ◌≤◌, Bool, true, false, List, [], ◌∷◌, length, get_or, ◌⊎◌, inl, inr, refl, sym, ◌∙◌, subst, arith}
 use Rattle.std.proofs.lemmas.Bool.{false≢true, cases_lt}
-use Rattle.ppc_isa.specs.declared.instr.Instr.{Instr}
-use Rattle.code_layout.specs.Blocks.{IsSet}
-use Rattle.code_layout.specs.Leaders.{IsBase, IsLeader}
+use Rattle.block_find.specs.Blocks.{MayEnd, flow, leader, full, over, IsBlock, behind_flow, behind_full, AreLeaders, IsIn}
 
 -- no leader stands behind one place and up to another
 abbrev pub NoneBetween : List Bool → ℕ → ℕ → Type 0
@@ -29,32 +27,23 @@ one_more leaders base place e none i low high = by (cases_lt i (place + 1))
         let same : place + 1 ≡ i = omega (arith, le, high) in
         subst (λ (j : ℕ). get_or leaders j false ≡ false) same (unset leaders (place + 1) e)
 
-module _ (first entry : ℕ) (words : List (Option Instr)) (leaders : List Bool) (each : (k : ℕ) → k < length words → IsSet leaders k ↔ IsLeader first entry words k) where
-  -- where a block begins by a mark, it is a leader
-  base_leads : (k : ℕ) → IsBase first entry words k → IsLeader first entry words k
-  base_leads k marked = record {
-    base = k;
-    nearest = record { begins = marked; within = omega arith; last = λ j low high m. omega (arith, low, high) };
-    whole = omega arith;
-  }
+module _ (first entry : ℕ) (words : List ℕ) (leaders : List Bool) (are : AreLeaders first entry words (IsIn leaders)) where
+  no_leader : (base place k : ℕ) → NoneBetween leaders base place → base < k → k ≤ place → ¬ (IsIn leaders k)
+  no_leader base place k none low high leads = false≢true (sym (none k low high) ∙ leads)
 
-  -- 64 words behind a leader, with none between, stands another
-  next_leads : (base place : ℕ) → base + 64 ≤ place → place < length words → NoneBetween leaders base place → IsLeader first entry words base → IsLeader first entry words (base + 64)
-  next_leads base place far lt none c = record {
-    base = c.base;
-    nearest = record { begins = c.nearest.begins; within = let w = c.nearest.within in omega (arith, w); last = λ k low high m. by k low high m (cases_lt base k) };
-    whole = let w = c.nearest.within in let e = c.whole in omega (arith, w, e);
-  }
+  -- a word that begins a block and has 64 words with none of them a leader has a leader behind them
+  full_block : (base place : ℕ) → base + 64 ≤ place → place < length words → NoneBetween leaders base place → IsBlock words (IsIn leaders) base 64
+  full_block base place far low none = record { some = omega arith; within = omega arith; ends = full refl; not_before = before }
     where
-      by : (k : ℕ) → c.base < k → k ≤ base + 64 → IsBase first entry words k → (base < k) ⊎ (k ≤ base) → ⊥
-      by k low high m (inl behind) = false≢true (sym (none k behind (omega (arith, high, far))) ∙ (each k (omega (arith, high, far, lt))).1 (base_leads k m))
-      by k low high m (inr before) = c.nearest.last k low before m
+      before : (j : ℕ) → 1 ≤ j → j < 64 → ¬ (MayEnd words (IsIn leaders) base j)
+      before j some few (flow is) = no_leader base place (base + j) none (omega arith) (omega arith) ((are.each (base + j)).1 (omega arith, behind_flow (base + j - 1) (omega arith) is (omega arith)))
+      before j some few (leader leads) = no_leader base place (base + j) none (omega arith) (omega arith) leads
+      before j some few (full same) = omega (arith, same)
+      before j some few (over same) = omega (arith, same)
 
   pub block_is_short : (base place : ℕ) → base < length words → place < length words → get_or leaders base false ≡ true → NoneBetween leaders base place → place < base + 64
   block_is_short base place lt low leads none = by (cases_lt place (base + 64))
     where
       by : (place < base + 64) ⊎ (base + 64 ≤ place) → place < base + 64
       by (inl short) = short
-      by (inr far) =
-          let next : IsLeader first entry words (base + 64) = next_leads base place far low none ((each base lt).0 leads) in
-          absurd (false≢true (sym (none (base + 64) (omega arith) far) ∙ (each (base + 64) (omega (arith, far, low))).1 next))
+      by (inr far) = absurd (no_leader base place (base + 64) none (omega arith) far ((are.each (base + 64)).1 (omega arith, behind_full base leads (full_block base place far low none) refl)))

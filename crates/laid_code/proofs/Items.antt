@@ -1,5 +1,5 @@
 -- Items whose bytes stand in the code stand there, with their marks and edges.
-use Rattle.std.proofs.Common.{◌≡◌, ℕ, zero, suc, ◌+◌, ◌-◌, ◌*◌, ◌%◌, ◌^◌, ◌<◌, ◌≤◌, Bool, true, false, cond, eqb, List, [], ◌∷◌, ◌++◌, map, length, drop, Option, All, Contains, inl, inr, length-append, append_assoc, refl, sym, ap, ◌∙◌, subst, arith}
+use Rattle.std.proofs.Common.{◌≡◌, ℕ, zero, suc, ◌+◌, ◌-◌, ◌*◌, ◌%◌, ◌^◌, ◌<◌, ◌≤◌, Bool, true, false, cond, eqb, List, [], ◌∷◌, ◌++◌, map, length, drop, Option, Some, None, All, Contains, length-append, append_assoc, refl, sym, ap, ◌∙◌, subst, arith}
 use Rattle.std.proofs.lemmas.Bool.{eqb-true, false≢true}
 use Rattle.std.proofs.lemmas.Bool.Decides.{nat_tests}
 use Rattle.std.proofs.lemmas.List.Elements.{All-head, All-tail}
@@ -25,8 +25,10 @@ use Rattle.simulation.specs.Plan.{SwitchAt, EdgeAt, LeapAt}
 use Rattle.code_layout.specs.Leap.{leap_ops}
 use Rattle.code_layout.specs.Places.{Moves}
 use Rattle.code_layout.specs.Code.{IsLaid, op_at, jump, spelled, placed, moves_ops, edge_bytes, leap_bytes, item_length, before_mark, item_bytes, items_bytes}
+use Rattle.symbolic_tiles.specs.Marks.{IsJumpCode, has_mark, AreMarked}
+use Rattle.symbolic_tiles.specs.TileItems.{code_of}
 use Rattle.laid_code.specs.Bytes.{HasBytes, RunsCode}
-use Rattle.laid_code.specs.Items.{ArePlaceable, IsJumpCode, has_mark, AreMarked, labels_of, edges_of, leaps_of, places_of, IsSwitch, AreSwitches}
+use Rattle.laid_code.specs.Items.{ArePlaceable, labels_of, edges_of, leaps_of, places_of, IsSwitch, AreSwitches}
 use Rattle.laid_code.specs.Laws.{ItemsStand}
 use Rattle.laid_code.proofs.Decoding.{first_bytes_at, next_bytes_at, ends_low, spelling_stands, jump_leads}
 use Rattle.laid_code.proofs.Lengths.{placed_length, all_placed_length, one_length, bytes_length, mark_within}
@@ -45,6 +47,21 @@ taken Less f = refl
 taken NotLess f = refl
 taken NotGreater f = refl
 taken Greater f = refl
+
+-- a condition's number in opcodes
+pub code_is : (c : Condition) → code_of (Some c) ≡ condition_number c
+code_is Below = refl
+code_is NotBelow = refl
+code_is Equal = refl
+code_is NotEqual = refl
+code_is NotAbove = refl
+code_is Above = refl
+code_is Sign = refl
+code_is NotSign = refl
+code_is Less = refl
+code_is NotLess = refl
+code_is NotGreater = refl
+code_is Greater = refl
 
 spelt_on : (c : Condition) (rel : ℕ) → jump (condition_number c) rel ≡ Jcc c rel
 spelt_on Below rel = refl
@@ -131,15 +148,14 @@ module _ (s : Setting) (code : Code) (reading : List ℕ → Option Fetched) (sw
 
   jumps_at : (here number mark label rel : ℕ) → IsJumpCode number → label < 2 ^ 32 → HasBytes code here (spelling (jump number rel)) → label ≡ here + item_length switch (Jump number mark) + rel →
       (h : Host) → h.eip ≡ here → s.host_step h ≡ Goes (record { core = h.core; eip = cond (is_taken number h.core.flags) label (here + item_length switch (Jump number mark)); choices = drop 1 h.choices })
-  jumps_at here number mark label rel (inl is) low has to h at =
+  jumps_at here number mark label rel (None, is) low has to h at =
       let op : jump number rel ≡ Jmp rel = ap (λ (n : ℕ). jump n rel) is ∙ spelt_always rel in
       let start : jump number 0 ≡ Jmp 0 = ap (λ (n : ℕ). jump n 0) is ∙ spelt_always 0 in
       let long : item_length switch (Jump number mark) ≡ 5 = ap (λ (o : Op). length (spelling o)) start in
       let done = by_always here label rel (here + item_length switch (Jump number mark)) (omega (arith, to, low)) low (subst (λ (o : Op). HasBytes code here (spelling o)) op has) (omega (arith, to, long)) h at in
       done ∙ ap (λ (n : ℕ). Goes (record { core = h.core; eip = cond (is_taken n h.core.flags) label (here + item_length switch (Jump number mark)); choices = drop 1 h.choices })) (sym is)
-  jumps_at here number mark label rel (inr both) low has to h at =
-      let c : Condition = both.0 in
-      let is : number ≡ condition_number c = both.1 in
+  jumps_at here number mark label rel (Some c, e) low has to h at =
+      let is : number ≡ condition_number c = e ∙ code_is c in
       let op : jump number rel ≡ Jcc c rel = ap (λ (n : ℕ). jump n rel) is ∙ spelt_on c rel in
       let start : jump number 0 ≡ Jcc c 0 = ap (λ (n : ℕ). jump n 0) is ∙ spelt_on c 0 in
       let long : item_length switch (Jump number mark) ≡ 6 = ap (λ (o : Op). length (spelling o)) start in

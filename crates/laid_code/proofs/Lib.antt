@@ -1,7 +1,6 @@
 pub mod Decoding
 pub mod Lengths
 pub mod Items
-pub mod Marks
 pub mod Laid
 pub mod Plans
 pub mod Rows

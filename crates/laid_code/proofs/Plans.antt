@@ -1,5 +1,5 @@
 -- Where the bytes of a plan's items stand, its block stands.
-use Rattle.std.proofs.Common.{◌≡◌, ℕ, suc, ◌+◌, Bool, cond, List, [], ◌∷◌, ◌++◌, drop, Option, Contains, inr, refl, ap, ◌∙◌, arith}
+use Rattle.std.proofs.Common.{◌≡◌, ℕ, suc, ◌+◌, Bool, cond, List, [], ◌∷◌, ◌++◌, drop, Option, Contains, refl, ap, ◌∙◌, arith, Some, sym}
 use Rattle.ppc_isa.specs.declared.map.Map.{Map}
 use Rattle.ia_codec.specs.Spelling.{condition_number}
 use Rattle.ia_codec.specs.declared.op.Op.{Op}
@@ -19,7 +19,7 @@ use Rattle.laid_code.specs.Bytes.{HasBytes, RunsCode}
 use Rattle.laid_code.specs.Items.{ArePlaceable, labels_of, edges_of, leaps_of, places_of, AreSwitches, ArePlaced}
 use Rattle.laid_code.specs.Plans.{plain, plan_items, last_map, AreRight}
 use Rattle.laid_code.specs.Laws.{PlansStand}
-use Rattle.laid_code.proofs.Items.{taken, first_item, other_items, behind_mark_at, op_at_place, jump_at_place, edge_stands, items_stand}
+use Rattle.laid_code.proofs.Items.{taken, code_is, first_item, other_items, behind_mark_at, op_at_place, jump_at_place, edge_stands, items_stand}
 
 -- where an indirect sequence begins, the items have one
 leap_among : (switch : ℕ → Moves) (here : ℕ) (items : List FlowOp) (a : ℕ) → Contains (leaps_of switch here items) a → Contains items Leap
@@ -56,7 +56,7 @@ module _ (s : Setting) (switch : ℕ → Moves) (code : Code) (reading : List �
         holds,
         fails,
         (λ host at.
-            jump_at_place s code reading switch runs here (condition_number condition) 0 holds (Edge next ∷ Mark 0 ∷ Edge target ∷ []) (inr (condition, refl)) (omega arith) h host at
+            jump_at_place s code reading switch runs here (condition_number condition) 0 holds (Edge next ∷ Mark 0 ∷ Edge target ∷ []) (Some condition, sym (code_is condition)) (omega arith) h host at
             ∙ ap (λ (b : Bool). Goes (record { core = host.core; eip = cond b holds fails; choices = drop 1 host.choices })) (taken condition host.core.flags)),
         edge_first map target holds [] switches last,
         edge_first map next fails (Mark 0 ∷ Edge target ∷ []) switches behind,

@@ -21,8 +21,7 @@ use Rattle.simulation.specs.Setting.{Setting, IsWordAt}
 use Rattle.simulation.specs.Plan.{IsTile, LeadsTo}
 use Rattle.code_layout.specs.Places.{no_registers}
 use Rattle.code_layout.specs.Code.{word_ops, ops_at}
-use Rattle.laid_code.specs.Items.{AreMarked}
-use Rattle.laid_code.proofs.Marks.{as_marked}
+use Rattle.symbolic_tiles.specs.Marks.{AreMarked}
 
 pub is_map : IsMap no_registers
 is_map = record { ebx = tt; esi = tt; edi = tt; ebx_esi = tt; ebx_edi = tt; esi_edi = tt }
@@ -90,6 +89,6 @@ kind_of i legal = by_flow (is_flow i) refl
     by_flow true e = flowing (record {
       flow = e;
       few = λ at. let m = flow_tiles_are_marked i no_registers at in omega (arith, m.1);
-      marked = λ at. as_marked (flow_tile i at no_registers) (flow_tiles_are_marked i no_registers at).0;
+      marked = λ at. (flow_tiles_are_marked i no_registers at).0;
       does = flow_tiles_do_rows i no_registers legal is_map (has_tile i e);
     })

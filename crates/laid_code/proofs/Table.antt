@@ -48,7 +48,7 @@ tables_stand reading ops P Q first entry words decoded area table reads has are 
       held = t.held;
       unwritable = t.unwritable;
       words = λ k lk.
-          word_at _ (area + 0x1000) table t.low t.bytes k lk (entry_low reading ops P Q first entry decoded area table reads carried k (let same = are.count in omega (arith, lk, count, same)))
+          word_at _ (area + 0x1000) table t.low t.bytes k lk (entry_low reading ops P Q first entry words decoded area table reads carried k (let same = are.count in omega (arith, lk, count, same)))
           ∙ sym (entry_at first table (code_start area) k lk);
       off = λ w lw aw out. entry_or_hold first table (code_start area) (λ d. d ≡ code_start area) w refl (λ k lk e. absurd (by_side k lk w e out));
     }

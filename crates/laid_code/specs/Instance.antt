@@ -43,11 +43,11 @@ setting_of words ops P Q first area table = record {
 }
 
 -- the code of Q is that of these words, by this table, and lies below 2^32
-pub record HasCodeFor (Q : Program) (first entry : ℕ) (words : List (Option Instr)) (area : ℕ) (table : List ℕ) : Type 0 where
+pub record HasCodeFor (Q : Program) (first entry : ℕ) (words : List ℕ) (decoded : List (Option Instr)) (area : ℕ) (table : List ℕ) : Type 0 where
   pub at : (code_of Q).at ≡ code_start area
   pub low : code_start area + length (code_of Q).bytes < 2 ^ 32
-  pub count : length table ≡ length words
-  pub code : IsCodeFor first entry words area table (code_of Q).bytes
+  pub count : length table ≡ length decoded
+  pub code : IsCodeFor first entry words decoded area table (code_of Q).bytes
 
 -- these words stand in the setting's table, which can be read and not written
 pub record HasTableOf (s : Setting) (entries : List ℕ) : Type 0 where

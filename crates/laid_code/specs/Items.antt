@@ -1,13 +1,11 @@
 -- The marks, edges and indirect sequences of items that stand in the code. This project's own.
-use Rattle.std.specs.Prelude.{◌≡◌, ℕ, ◌+◌, ◌*◌, ◌^◌, ◌<◌, ◌≤◌, ◌⊎◌, Bool, true, false, ◌||◌, List, [], ◌∷◌, length}
-use Rattle.ia_codec.specs.Spelling.{condition_number}
-use Rattle.ia_codec.specs.declared.op.Condition.{Condition}
+use Rattle.std.specs.Prelude.{◌≡◌, ℕ, ◌+◌, ◌*◌, ◌^◌, ◌<◌, ◌≤◌, List, [], ◌∷◌, length}
 use Rattle.symbolic_tiles.specs.declared.flow_op.FlowOp.{FlowOp}
-use Rattle.symbolic_tiles.specs.declared.flow_op.FlowOp.TheVariants.{Jump, Mark, Edge, Leap}
+use Rattle.symbolic_tiles.specs.declared.flow_op.FlowOp.TheVariants.{Mark, Edge, Leap}
 use Rattle.ppc_isa.specs.declared.map.Map.{Map}
 use Rattle.ia_codec.specs.declared.op.Op.{Op}
 use Rattle.code_layout.specs.Places.{Moves, Places}
-use Rattle.code_layout.specs.Code.{IsPlaceable, item_length, is_mark, before_mark}
+use Rattle.code_layout.specs.Code.{IsPlaceable, item_length, before_mark}
 use Rattle.simulation.specs.Setting.{Setting}
 use Rattle.simulation.specs.Plan.{IsMove}
 use Rattle.symbolic_tiles.specs.Standing.{EdgeCode}
@@ -16,22 +14,6 @@ use Rattle.symbolic_tiles.specs.Standing.{EdgeCode}
 abbrev pub ArePlaceable : List Op → Type 0
 ArePlaceable [] = Unit {0}
 ArePlaceable (op ∷ ops) = IsPlaceable op × ArePlaceable ops
-
--- a jump's code: the number of a condition, or 16, which is always
-abbrev pub IsJumpCode : ℕ → Type 0
-IsJumpCode code = (code ≡ 16) ⊎ ((c : Condition) × (code ≡ condition_number c))
-
--- whether a mark stands among the items
-abbrev pub has_mark : List FlowOp → ℕ → Bool
-has_mark [] mark = false
-has_mark (item ∷ items) mark = is_mark item mark || has_mark items mark
-
--- Each jump has a code and leads to a mark behind it, and no mark stands twice.
-abbrev pub AreMarked : List FlowOp → Type 0
-AreMarked [] = Unit {0}
-AreMarked (Jump code mark ∷ items) = IsJumpCode code × (has_mark items mark ≡ true) × AreMarked items
-AreMarked (Mark mark ∷ items) = (has_mark items mark ≡ false) × AreMarked items
-AreMarked (_ ∷ items) = AreMarked items
 
 -- where the marks of items stand that begin at an address
 abbrev pub labels_of : (ℕ → Moves) → ℕ → List FlowOp → ℕ → ℕ

@@ -14,9 +14,10 @@ use Rattle.simulation.specs.Setting.{Setting, HasTable, IsOffCode, JumpsTo}
 use Rattle.simulation.specs.Plan.{PlanStep, EdgeAt, LeapAt, BlockAt, Begins}
 use Rattle.code_layout.specs.Places.{Moves}
 use Rattle.code_layout.specs.Code.{IsLaid, items_bytes}
+use Rattle.symbolic_tiles.specs.Marks.{AreMarked}
 use Rattle.laid_code.specs.Bytes.{HasBytes, RunsCode}
 use Rattle.laid_code.specs.Instance.{code_start, setting_of, HasWords, AreDecodedAs, HasCodeFor, HasTableOf}
-use Rattle.laid_code.specs.Items.{AreMarked, labels_of, edges_of, leaps_of, places_of, AreSwitches, ArePlaced}
+use Rattle.laid_code.specs.Items.{labels_of, edges_of, leaps_of, places_of, AreSwitches, ArePlaced}
 use Rattle.laid_code.specs.Plans.{plan_items, last_map, AreRight}
 
 -- Where an op's spelling stands, the op stands.
@@ -56,16 +57,16 @@ IsBlockOrOff s w = Begins s w ⊎ (IsOffCode s w × (s.target w ≡ s.hold))
 abbrev pub BlocksStand : Type 0
 BlocksStand =
     (reading : ℕ → Option Instr) (ops : List ℕ → Option Fetched) (P Q : Program) (first entry : ℕ) (words : List ℕ) (decoded : List (Option Instr)) (area : ℕ) (table : List ℕ) →
-    ReadsWords reading → ReadsOps ops → HasWords P first words → AreDecodedAs words decoded → HasCodeFor Q first entry decoded area table → (w : ℕ) → IsBlockOrOff (setting_of reading ops P Q first area table) w
+    ReadsWords reading → ReadsOps ops → HasWords P first words → AreDecodedAs words decoded → HasCodeFor Q first entry words decoded area table → (w : ℕ) → IsBlockOrOff (setting_of reading ops P Q first area table) w
 
 -- `hold` is a jump to itself.
 abbrev pub HoldStands : Type 0
 HoldStands =
-    (reading : ℕ → Option Instr) (ops : List ℕ → Option Fetched) (P Q : Program) (first entry : ℕ) (decoded : List (Option Instr)) (area : ℕ) (table : List ℕ) →
-    ReadsOps ops → HasCodeFor Q first entry decoded area table → JumpsTo (setting_of reading ops P Q first area table) (code_start area) (code_start area)
+    (reading : ℕ → Option Instr) (ops : List ℕ → Option Fetched) (P Q : Program) (first entry : ℕ) (words : List ℕ) (decoded : List (Option Instr)) (area : ℕ) (table : List ℕ) →
+    ReadsOps ops → HasCodeFor Q first entry words decoded area table → JumpsTo (setting_of reading ops P Q first area table) (code_start area) (code_start area)
 
 -- The table leads to the block of each code word, and elsewhere nothing but to `hold`.
 abbrev pub TablesStand : Type 0
 TablesStand =
     (reading : ℕ → Option Instr) (ops : List ℕ → Option Fetched) (P Q : Program) (first entry : ℕ) (words : List ℕ) (decoded : List (Option Instr)) (area : ℕ) (table : List ℕ) →
-    ReadsOps ops → HasWords P first words → AreDecodedAs words decoded → HasCodeFor Q first entry decoded area table → HasTableOf (setting_of reading ops P Q first area table) table → HasTable (setting_of reading ops P Q first area table)
+    ReadsOps ops → HasWords P first words → AreDecodedAs words decoded → HasCodeFor Q first entry words decoded area table → HasTableOf (setting_of reading ops P Q first area table) table → HasTable (setting_of reading ops P Q first area table)

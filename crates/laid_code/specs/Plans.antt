@@ -10,7 +10,8 @@ use Rattle.code_layout.specs.Code.{IsLaid}
 use Rattle.simulation.specs.Windows.{behind_all}
 use Rattle.simulation.specs.Setting.{Setting}
 use Rattle.simulation.specs.Plan.{PlanStep, Move, Tile, BranchTile, FlowTile, IsMove, IsTile, IsUnneeded, LeadsTo, IsFlowTile}
-use Rattle.laid_code.specs.Items.{ArePlaceable, AreMarked}
+use Rattle.laid_code.specs.Items.{ArePlaceable}
+use Rattle.symbolic_tiles.specs.Marks.{AreMarked}
 
 abbrev pub plain : List Op → List FlowOp
 plain ops = map (λ op. Plain op) ops

@@ -12,13 +12,12 @@ use Rattle.trans_tool.specs.Listing.{EndsListing}
 use Rattle.trans_tool.specs.Running.{EndsRun}
 use Rattle.trans_tool.specs.Top.{Comes, Runs}
 use Rattle.trans_tool.specs.declared.cause.Cause.{Cause}
-use Rattle.trans_tool.specs.declared.cause.Cause.TheVariants.{Done, GuestExit, Usage, BadElf, TooLong, FileRead, FileWrite, OutFault, ErrFault, Memory, StepsSpent, Trap, Illegal, DivideFault, Unbuilt}
+use Rattle.trans_tool.specs.declared.cause.Cause.TheVariants.{Done, GuestExit, Usage, BadElf, TooLong, FileRead, FileWrite, OutFault, ErrFault, Memory, StepsSpent, Trap, Illegal, DivideFault}
 use Rattle.trans_tool.specs.declared.cause.Cause.TheVariants as cause
 
 pub ends-memory : (o : Outside) (from to : List ℕ) (cause : Cause) → Ends o from to cause → Ends o from to Memory
 ends-memory o from to Done h = inr (h.others, h.source)
 ends-memory o from to (FileRead file) h = inl h.2
-ends-memory o from to (Unbuilt address) h = inl h.1
 ends-memory o from to (FileWrite file) h = inr (h.2, h.3)
 ends-memory o from to Memory h = h
 ends-memory o from to (BadElf rule offset) h = inl h.1
@@ -46,7 +45,6 @@ listing-memory o out file Memory h = h
 listing-memory o out file Usage h = absurd h
 listing-memory o out file (FileWrite number) h = absurd h
 listing-memory o out file ErrFault h = absurd h
-listing-memory o out file (Unbuilt address) h = absurd h
 listing-memory o out file (GuestExit number) h = absurd h
 listing-memory o out file StepsSpent h = absurd h
 listing-memory o out file Trap h = absurd h
@@ -70,7 +68,6 @@ run-memory o file steps old new Usage h = absurd h
 run-memory o file steps old new (FileWrite number) h = absurd h
 run-memory o file steps old new OutFault h = absurd h
 run-memory o file steps old new ErrFault h = absurd h
-run-memory o file steps old new (Unbuilt address) h = absurd h
 
 comes-memory : (words : List (List ℕ)) (o : Outside) (old new : Streams) (cause : Cause) → cause ≢ Usage → Comes words o old new cause → Comes words o old new Memory
 comes-memory words o old new cause apart (inl h) = absurd (apart h.usage)

@@ -13,7 +13,7 @@ use Rattle.trans_tool.specs.Words.{IsRunLine}
 use Rattle.trans_tool.specs.Due.{IsDue, IsDueListing, IsUnhindered, IsUnhinderedListing}
 use Rattle.trans_tool.specs.Top.{Comes, Runs}
 use Rattle.trans_tool.specs.declared.cause.Cause.{Cause}
-use Rattle.trans_tool.specs.declared.cause.Cause.TheVariants.{Done, GuestExit, Usage, BadElf, TooLong, FileRead, FileWrite, OutFault, ErrFault, Memory, StepsSpent, Trap, Illegal, DivideFault, Unbuilt}
+use Rattle.trans_tool.specs.declared.cause.Cause.TheVariants.{Done, GuestExit, Usage, BadElf, TooLong, FileRead, FileWrite, OutFault, ErrFault, Memory, StepsSpent, Trap, Illegal, DivideFault}
 use Rattle.trans_tool.specs.declared.cause.Cause.TheVariants as cause
 
 pub some_same : (a b : List ℕ) → Some a ≡ Some b → a ≡ b
@@ -71,8 +71,8 @@ module _ (bytes : List ℕ) where
     ended Memory h = inr refl
     ended Done h =
         let s = h.source in
-        let same = input_is s.bytes s.source.input in
-        inl (subst (λ (b : List ℕ). length b ≤ 0x1000000) same s.source.input.within, (s.program, subst (λ (b : List ℕ). IsProgramOf PowerPc b s.program) same s.source.loads, s.built))
+        let same = input_is s.bytes s.input in
+        inl (subst (λ (b : List ℕ). length b ≤ 0x1000000) same s.input.within, (s.program, subst (λ (b : List ℕ). IsProgramOf PowerPc b s.program) same s.loads))
     ended (TooLong file) h =
         let long : IsLonger 0x1000000 (Some bytes) = subst (IsLonger 0x1000000) free.input (h.1 free.telling) in
         inl (h.0, long)
@@ -80,10 +80,6 @@ module _ (bytes : List ℕ) where
         let x = h.0 in
         let same = input_is x.bytes x.input in
         inl (subst (λ (b : List ℕ). length b ≤ 0x1000000) same x.input.within, subst (λ (b : List ℕ). IsFirstFault PowerPc b rule offset) same x.fault)
-    ended (Unbuilt address) h =
-        let x = h.0 in
-        let same = input_is x.bytes x.source.input in
-        inl (subst (λ (b : List ℕ). length b ≤ 0x1000000) same x.source.input.within, (x.program, subst (λ (b : List ℕ). IsProgramOf PowerPc b x.program) same x.source.loads, x.first))
     ended (FileRead file) h = absurd (free.read h.1)
     ended (FileWrite file) h = absurd (free.written h.1)
     ended Usage h = absurd h
@@ -134,7 +130,6 @@ module _ (bytes : List ℕ) where
     listed out Usage h calm = absurd h
     listed out (FileWrite number) h calm = absurd h
     listed out ErrFault h calm = absurd h
-    listed out (Unbuilt address) h calm = absurd h
     listed out (GuestExit number) h calm = absurd h
     listed out StepsSpent h calm = absurd h
     listed out Trap h calm = absurd h

@@ -1,16 +1,14 @@
 -- Bytes are due to have no two causes.
-use Rattle.std.proofs.Common.{Option, ◌≡◌, ◌<◌, ◌≤◌, ◌⊎◌, inl, inr, ℕ, List, [], length, refl, sym, ap, ◌∙◌, subst, arith}
-use Rattle.std.proofs.lemmas.Bool.{cases_lt}
+use Rattle.std.proofs.Common.{Option, ◌≡◌, ◌<◌, ◌≤◌, ℕ, List, [], length, refl, sym, ap, ◌∙◌, subst, arith}
 use Rattle.space.specs.declared.program.Kind.{Kind}
 use Rattle.space.specs.declared.program.Kind.TheVariants.{PowerPc}
 use Rattle.space.specs.declared.program.Program.{Program}
 use Rattle.elf_load.specs.Faults.{IsProgramOf, IsFirstFault}
 use Rattle.elf_load.specs.declared.refusal.ElfRefusal.{ElfRefusal}
-use Rattle.translate_core.specs.Built.{IsAllBuilt, IsFirstUnbuilt}
 use Rattle.trans_tool.specs.Listing.{kind_of}
 use Rattle.trans_tool.specs.Due.{IsDue, IsDueListing}
 use Rattle.trans_tool.specs.declared.cause.Cause.{Cause}
-use Rattle.trans_tool.specs.declared.cause.Cause.TheVariants.{Done, GuestExit, Usage, BadElf, TooLong, FileRead, FileWrite, OutFault, ErrFault, Memory, StepsSpent, Trap, Illegal, DivideFault, Unbuilt}
+use Rattle.trans_tool.specs.declared.cause.Cause.TheVariants.{Done, GuestExit, Usage, BadElf, TooLong, FileRead, FileWrite, OutFault, ErrFault, Memory, StepsSpent, Trap, Illegal, DivideFault}
 use Rattle.trans_tool.specs.declared.cause.Cause.TheVariants as cause
 use Rattle.space.specs.declared.program.Kind.TheVariants.{Ia32}
 use Rattle.space.specs.declared.call.End.{End}
@@ -38,38 +36,17 @@ fault_same a b m n e = let f = e.0 in let g = e.1 in cc
 pub no_fault : (kind : Kind) (bytes : List ℕ) (p : Program) (rule : ElfRefusal) (offset : ℕ) → IsProgramOf kind bytes p → IsFirstFault kind bytes rule offset → ⊥
 no_fault kind bytes p rule offset loads fault = loads.passes rule offset fault.fails
 
-one_unbuilt : (p : Program) (a b : ℕ) → IsFirstUnbuilt p a → IsFirstUnbuilt p b → a ≡ b
-one_unbuilt p a b x y = by (cases_lt a b) (cases_lt b a)
-  where
-    by : (a < b) ⊎ (b ≤ a) → (b < a) ⊎ (a ≤ b) → a ≡ b
-    by (inl lower) c = absurd (x.unbuilt (y.before a lower x.here))
-    by (inr le) (inl lower) = absurd (y.unbuilt (x.before b lower y.here))
-    by (inr le) (inr ge) = omega (arith, le, ge)
-
 -- bytes are due to have one cause
 module _ (one_program : OneProgram) (one_fault : OneFault) (bytes : List ℕ) where
   pub one_due : (a b : Cause) → IsDue bytes a → IsDue bytes b → a ≡ b
   one_due (TooLong m) (TooLong n) x y = long_same m n x.0 y.0
   one_due (TooLong m) (BadElf r o) x y = absurd (let l = x.1 in let s = y.0 in omega (arith, l, s))
-  one_due (TooLong m) (Unbuilt a) x y = absurd (let l = x.1 in let s = y.0 in omega (arith, l, s))
   one_due (TooLong m) Done x y = absurd (let l = x.1 in let s = y.0 in omega (arith, l, s))
   one_due (BadElf r o) (TooLong m) x y = absurd (let l = y.1 in let s = x.0 in omega (arith, l, s))
   one_due (BadElf r o) (BadElf q n) x y = fault_same r q o n (one_fault PowerPc bytes r q o n x.1 y.1)
-  one_due (BadElf r o) (Unbuilt a) x y = absurd (no_fault PowerPc bytes y.1.0 r o y.1.1 x.1)
   one_due (BadElf r o) Done x y = absurd (no_fault PowerPc bytes y.1.0 r o y.1.1 x.1)
-  one_due (Unbuilt a) (TooLong m) x y = absurd (let l = y.1 in let s = x.0 in omega (arith, l, s))
-  one_due (Unbuilt a) (BadElf r o) x y = absurd (no_fault PowerPc bytes x.1.0 r o x.1.1 y.1)
-  one_due (Unbuilt a) (Unbuilt b) x y =
-      let same = one_program PowerPc bytes y.1.0 x.1.0 y.1.1 x.1.1 in
-      ap Unbuilt (one_unbuilt x.1.0 a b x.1.2 (subst (λ (p : Program). IsFirstUnbuilt p b) same y.1.2))
-  one_due (Unbuilt a) Done x y =
-      let same = one_program PowerPc bytes y.1.0 x.1.0 y.1.1 x.1.1 in
-      absurd (x.1.2.unbuilt ((subst IsAllBuilt same y.1.2) a x.1.2.here))
   one_due Done (TooLong m) x y = absurd (let l = y.1 in let s = x.0 in omega (arith, l, s))
   one_due Done (BadElf r o) x y = absurd (no_fault PowerPc bytes x.1.0 r o x.1.1 y.1)
-  one_due Done (Unbuilt a) x y =
-      let same = one_program PowerPc bytes x.1.0 y.1.0 x.1.1 y.1.1 in
-      absurd (y.1.2.unbuilt ((subst IsAllBuilt same x.1.2) a y.1.2.here))
   one_due Done Done x y = refl
   one_due Usage b x y = absurd x
   one_due (FileRead f) b x y = absurd x
@@ -95,7 +72,6 @@ module _ (one_program : OneProgram) (one_fault : OneFault) (bytes : List ℕ) wh
   one_listing Done (TooLong m) x y = absurd (let l = y.1 in let s = x.0 in omega (arith, l, s))
   one_listing Done (BadElf r o) x y = absurd (no_fault (kind_of bytes) bytes x.1.0 r o x.1.1 y.1)
   one_listing Done Done x y = refl
-  one_listing (Unbuilt a) b x y = absurd x
   one_listing Usage b x y = absurd x
   one_listing (FileRead f) b x y = absurd x
   one_listing (FileWrite f) b x y = absurd x
@@ -136,7 +112,6 @@ view words ops bytes steps before cause.Trap d = ends d
 view words ops bytes steps before cause.Illegal d = ends d
 view words ops bytes steps before cause.Outside d = ends d
 view words ops bytes steps before cause.DivideFault d = ends d
-view words ops bytes steps before (cause.Unbuilt a) d = ends d
 
 module _ (one_program : OneProgram) (one_fault : OneFault) (words : ℕ → Option Instr) (ops : List ℕ → Option Fetched) (bytes : List ℕ) (steps : ℕ) (before : Bytes) where
   one_end : (a b : Cause) → IsDueEnd words ops bytes steps before a → IsDueEnd words ops bytes steps before b → a ≡ b

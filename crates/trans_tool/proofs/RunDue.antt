@@ -112,7 +112,6 @@ module _ (bytes : List ℕ) (words_read : ℕ → Option Instr) (ops_read : List
   ended (cause.FileWrite n) h = absurd h
   ended cause.OutFault h = absurd h
   ended cause.ErrFault h = absurd h
-  ended (cause.Unbuilt a) h = absurd h
 
   pub run_comes : (c : Cause) → Comes words o old after c → IsDueOr c
   run_comes c (inl usage) = absurd (usage.unspelled.no_run file steps free.spelled)

@@ -6,7 +6,7 @@ use Rattle.trans_tool.specs.Seen.{Outside, Stream, StreamStands, StreamsStand}
 use Rattle.trans_tool.specs.Listing.{EndsListing, EndsUnread}
 use Rattle.trans_tool.specs.Running.{EndsRun}
 use Rattle.trans_tool.specs.declared.cause.Cause.{Cause}
-use Rattle.trans_tool.specs.declared.cause.Cause.TheVariants.{Done, GuestExit, Usage, BadElf, TooLong, FileRead, FileWrite, OutFault, ErrFault, Memory, StepsSpent, Trap, Illegal, DivideFault, Unbuilt}
+use Rattle.trans_tool.specs.declared.cause.Cause.TheVariants.{Done, GuestExit, Usage, BadElf, TooLong, FileRead, FileWrite, OutFault, ErrFault, Memory, StepsSpent, Trap, Illegal, DivideFault}
 use Rattle.trans_tool.specs.declared.cause.Cause.TheVariants as cause
 
 module _ (o : Outside) (file : List ℕ) where
@@ -20,7 +20,6 @@ module _ (o : Outside) (file : List ℕ) where
   listing_unread out (FileWrite number) h s = absurd h
   listing_unread out OutFault h s = absurd h
   listing_unread out ErrFault h s = absurd h
-  listing_unread out (Unbuilt address) h s = absurd h
   listing_unread out (GuestExit number) h s = absurd h
   listing_unread out StepsSpent h s = absurd h
   listing_unread out Trap h s = absurd h
@@ -38,7 +37,6 @@ module _ (o : Outside) (file : List ℕ) where
   run_unread steps old new (FileWrite number) h s = absurd h
   run_unread steps old new OutFault h s = absurd h
   run_unread steps old new ErrFault h s = absurd h
-  run_unread steps old new (Unbuilt address) h s = absurd h
   run_unread steps old new (GuestExit number) h s = absurd h
   run_unread steps old new StepsSpent h s = absurd h
   run_unread steps old new Trap h s = absurd h

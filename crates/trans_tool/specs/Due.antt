@@ -10,20 +10,17 @@ use Rattle.outside.specs.Causes.{Rose}
 use Rattle.runner.specs.Answers.{Bytes}
 use Rattle.runner.specs.Attending.{Streams}
 use Rattle.trans_tool.specs.Running.{RunsWholeOn, cause_of}
-use Rattle.translate_core.specs.Built.{IsAllBuilt, IsFirstUnbuilt}
 use Rattle.trans_tool.specs.Words.{Spells, SpellsList, SpellsRun}
 use Rattle.trans_tool.specs.Seen.{Outside}
 use Rattle.trans_tool.specs.Listing.{kind_of}
 use Rattle.trans_tool.specs.declared.cause.Cause.{Cause}
-use Rattle.trans_tool.specs.declared.cause.Cause.TheVariants.{Done, BadElf, TooLong, Unbuilt}
+use Rattle.trans_tool.specs.declared.cause.Cause.TheVariants.{Done, BadElf, TooLong}
 
--- The file of these bytes is too long, or its first fault is this, or its first code word that isn't built stands there,
--- or else it is translated.
+-- the file of these bytes is too long, or its first fault is this, or else it is translated
 abbrev pub IsDue : List ℕ → Cause → Type 0
 IsDue bytes (TooLong file) = (file ≡ 0) × (0x1000000 < length bytes)
 IsDue bytes (BadElf rule offset) = (length bytes ≤ 0x1000000) × IsFirstFault PowerPc bytes rule offset
-IsDue bytes (Unbuilt address) = (length bytes ≤ 0x1000000) × ((program : Program) × IsProgramOf PowerPc bytes program × IsFirstUnbuilt program address)
-IsDue bytes Done = (length bytes ≤ 0x1000000) × ((program : Program) × IsProgramOf PowerPc bytes program × IsAllBuilt program)
+IsDue bytes Done = (length bytes ≤ 0x1000000) × ((program : Program) × IsProgramOf PowerPc bytes program)
 IsDue bytes _ = ⊥
 
 -- the same for a listing

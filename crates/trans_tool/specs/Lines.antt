@@ -4,7 +4,7 @@ use Rattle.std.specs.Io.KnownBytes.{Appends}
 use Rattle.outside.specs.Causes.{Rose}
 use Rattle.outside.specs.Streams.{AppendsPrefix}
 use Rattle.trans_tool.specs.declared.cause.Cause.{Cause}
-use Rattle.trans_tool.specs.declared.cause.Cause.TheVariants.{Done, GuestExit, Usage, BadElf, TooLong, FileRead, FileWrite, OutFault, ErrFault, Memory, StepsSpent, Trap, Illegal, Outside, DivideFault, Unbuilt}
+use Rattle.trans_tool.specs.declared.cause.Cause.TheVariants.{Done, GuestExit, Usage, BadElf, TooLong, FileRead, FileWrite, OutFault, ErrFault, Memory, StepsSpent, Trap, Illegal, Outside, DivideFault}
 use Rattle.elf_load.specs.Rules.{number_of}
 
 abbrev pub code_of : Cause → ℕ
@@ -23,7 +23,6 @@ code_of Trap = 76
 code_of Illegal = 77
 code_of Outside = 78
 code_of DivideFault = 79
-code_of (Unbuilt address) = 80
 
 abbrev pub refusal_text : ℕ → ℕ → List ℕ
 refusal_text number offset =
@@ -45,7 +44,6 @@ line_of Trap = codes "trans: trap\n"
 line_of Illegal = codes "trans: illegal instruction\n"
 line_of Outside = codes "trans: outside access\n"
 line_of DivideFault = codes "trans: divide fault\n"
-line_of (Unbuilt address) = codes "trans: not built at " ++ decimal address ++ codes "\n"
 
 -- A cause without a line puts nothing, and the sink stands. The line of another was put whole, or a prefix of it and then
 -- the sink failed.

@@ -4,19 +4,13 @@ use Rattle.space.specs.declared.program.Kind.TheVariants.{PowerPc}
 use Rattle.space.specs.declared.program.Program.{Program}
 use Rattle.elf_load.specs.Faults.{IsProgramOf, IsFirstFault}
 use Rattle.elf_load.specs.declared.refusal.ElfRefusal.{ElfRefusal}
-use Rattle.elf_load.specs.declared.refusal.LoadFault.{LoadFault}
-use Rattle.elf_load.specs.declared.refusal.LoadFault.TheVariants.{Refused, Memory as LoadMemory}
 use Rattle.machines.specs.Files.{Agrees}
 use Rattle.agreement.specs.Written.{Carries}
-use Rattle.translate_core.specs.Built.{IsAllBuilt, IsFirstUnbuilt}
 use Rattle.translate_core.specs.declared.translation.Output.{Output}
 use Rattle.trans_tool.specs.Whole.{IsLonger}
 use Rattle.trans_tool.specs.Seen.{Outside, FilesStand, OthersStand}
-use Rattle.trans_tool.specs.declared.translate.Refusal.{Refusal}
-use Rattle.trans_tool.specs.declared.translate.Refusal.TheVariants.{Elf}
-use Rattle.trans_tool.specs.declared.translate.Refusal.TheVariants as refusal
 use Rattle.trans_tool.specs.declared.cause.Cause.{Cause}
-use Rattle.trans_tool.specs.declared.cause.Cause.TheVariants.{Done, BadElf, TooLong, FileRead, FileWrite, Memory, Unbuilt}
+use Rattle.trans_tool.specs.declared.cause.Cause.TheVariants.{Done, BadElf, TooLong, FileRead, FileWrite, Memory}
 
 -- IN held these bytes, of which there are at most 16 MiB
 pub record IsInput (o : Outside) (from bytes : List ℕ) : Type 0 where
@@ -24,16 +18,11 @@ pub record IsInput (o : Outside) (from bytes : List ℕ) : Type 0 where
   pub within : length bytes ≤ 0x1000000
 
 -- IN held a PowerPC program
-pub record IsSource (o : Outside) (from bytes : List ℕ) (program : Program) : Type 0 where
-  pub input : IsInput o from bytes
-  pub loads : IsProgramOf PowerPc bytes program
-
--- IN held a PowerPC program of built words
-pub record IsTranslatable (o : Outside) (from : List ℕ) : Type 0 where
+pub record IsSource (o : Outside) (from : List ℕ) : Type 0 where
   pub bytes : List ℕ
   pub program : Program
-  pub source : IsSource o from bytes program
-  pub built : IsAllBuilt program
+  pub input : IsInput o from bytes
+  pub loads : IsProgramOf PowerPc bytes program
 
 -- IN held bytes whose first fault is this
 pub record IsRefused (o : Outside) (from : List ℕ) (rule : ElfRefusal) (offset : ℕ) : Type 0 where
@@ -41,18 +30,11 @@ pub record IsRefused (o : Outside) (from : List ℕ) (rule : ElfRefusal) (offset
   pub input : IsInput o from bytes
   pub fault : IsFirstFault PowerPc bytes rule offset
 
--- IN held a program, whose first code word that isn't built stands at this address
-pub record StopsAt (o : Outside) (from : List ℕ) (address : ℕ) : Type 0 where
-  pub bytes : List ℕ
-  pub program : Program
-  pub source : IsSource o from bytes program
-  pub first : IsFirstUnbuilt program address
-
--- IN held a program of built words. OUT holds a file that carries its translation and agrees with it: for every list of
+-- IN held a PowerPC program. OUT holds a file that carries its translation and agrees with it: for every list of
 -- answers to calls, every choice of the processor and every n, until the program's first access outside its segments. All
 -- other names hold what they held.
 pub record IsTranslated (o : Outside) (from to : List ℕ) : Type 0 where
-  pub source : IsTranslatable o from
+  pub source : IsSource o from
   pub file : List ℕ
   pub carries : Carries source.program file
   pub agrees : Agrees source.program file
@@ -66,26 +48,13 @@ Ends o from to Done = IsTranslated o from to
 Ends o from to (FileRead file) = (file ≡ 0) × (o.reads from < o.reads' from) × FilesStand o
 Ends o from to (TooLong file) = (file ≡ 0) × (IsTrue o.tells → IsLonger 0x1000000 (o.held from)) × FilesStand o
 Ends o from to (BadElf rule offset) = IsRefused o from rule offset × FilesStand o
-Ends o from to (Unbuilt address) = StopsAt o from address × FilesStand o
-Ends o from to (FileWrite file) = (file ≡ 1) × (o.replaces to < o.replaces' to) × OthersStand o to × IsTranslatable o from
-Ends o from to Memory = FilesStand o ⊎ (OthersStand o to × IsTranslatable o from)
+Ends o from to (FileWrite file) = (file ≡ 1) × (o.replaces to < o.replaces' to) × OthersStand o to × IsSource o from
+Ends o from to Memory = FilesStand o ⊎ (OthersStand o to × IsSource o from)
 Ends o from to _ = ⊥
 
 -- a file of these bytes was translated so
 pub record IsAnswer (bytes : List ℕ) (output : Output) : Type 0 where
   pub program : Program
   pub loads : IsProgramOf PowerPc bytes program
-  pub built : IsAllBuilt program
   pub carries : Carries program output.file
   pub agrees : Agrees program output.file
-
--- why a file of these bytes was not translated
-abbrev pub Refuses : List ℕ → Refusal → Type 0
-Refuses bytes (Elf rule offset) = IsFirstFault PowerPc bytes rule offset
-Refuses bytes (refusal.Unbuilt address) = (program : Program) × IsProgramOf PowerPc bytes program × IsFirstUnbuilt program address
-Refuses bytes refusal.Memory = Unit {0}
-
--- the refusal that a fault of loading gives
-abbrev pub refusal_of : LoadFault → Refusal
-refusal_of (Refused rule offset) = Elf rule offset
-refusal_of (LoadMemory none) = refusal.Memory

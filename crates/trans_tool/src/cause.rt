@@ -41,8 +41,6 @@ pub enum Cause {
     Outside,
     /// The program that was run divided by zero, or the quotient was too long. On IA-32 alone.
     DivideFault,
-    /// Translation is not built for the word at this address, or, at 0, for a file of this form.
-    Unbuilt(u32),
 }
 
 /// How a run of the tool ended.
@@ -74,7 +72,6 @@ impl Cause {
             Cause::Illegal => 77,
             Cause::Outside => 78,
             Cause::DivideFault => 79,
-            Cause::Unbuilt(_) => 80,
         }
     }
 
@@ -95,7 +92,6 @@ impl Cause {
             Cause::Illegal => format!(in alloc; "trans: illegal instruction\n"),
             Cause::Outside => format!(in alloc; "trans: outside access\n"),
             Cause::DivideFault => format!(in alloc; "trans: divide fault\n"),
-            Cause::Unbuilt(address) => format!(in alloc; "trans: not built at {address}\n"),
         }
     }
 }

@@ -145,7 +145,9 @@ fn plain_files_are_translated(rt: HostRuntime) -> Result<(), Fail> {
     is_translated(&rt, alloc, "380000013860000744000002", 16781, &exit)?;
     let jump = "4800000838600001386000073800000144000002";
     is_translated(&rt, alloc, jump, 16802, &[(24, "05200810")])?;
-    is_translated(&rt, alloc, "38000063440000023800000144000002", 17119, &[])
+    is_translated(&rt, alloc, "38000063440000023800000144000002", 17119, &[])?;
+    is_translated(&rt, alloc, "00000000", 16391, &[(0x4005, "0f0b")])?;
+    is_translated(&rt, alloc, "7fe00008", 16437, &[])
 }
 
 #[test]
@@ -163,21 +165,7 @@ fn other_files_are_refused(rt: HostRuntime) -> Result<(), Fail> {
         65,
         "trans: elf refusal 12 at offset 52\n",
     );
-    is_refused(&rt, alloc, TRANSLATE, first(&file, 95), &[], &[], end)?;
-    let end = (
-        Cause::Unbuilt(268435456),
-        80,
-        "trans: not built at 268435456\n",
-    );
-    let first_word = program(alloc, "600000003860000744000002")?;
-    is_refused(&rt, alloc, TRANSLATE, &first_word, &[], &[], end)?;
-    let end = (
-        Cause::Unbuilt(268435464),
-        80,
-        "trans: not built at 268435464\n",
-    );
-    let last_word = program(alloc, "380000013860000744000003")?;
-    is_refused(&rt, alloc, TRANSLATE, &last_word, &[], &[], end)
+    is_refused(&rt, alloc, TRANSLATE, first(&file, 95), &[], &[], end)
 }
 
 // A file that was touched would be a fault, since both first calls fail.

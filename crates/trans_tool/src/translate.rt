@@ -1,18 +1,19 @@
 //! The command `translate IN OUT`.
 
 ghost use Rattle.std.specs.Prelude.{◌≡◌, ◌≤◌, ℕ, MatchResult, length};
+ghost use Rattle.space.specs.declared.program.Kind.TheVariants.{PowerPc};
+ghost use Rattle.elf_load.specs.Faults.{IsCause};
 ghost use Rattle.trans_tool.specs.Seen.{seen_by};
-ghost use Rattle.trans_tool.specs.Translate.{Ends, IsAnswer, Refuses};
+ghost use Rattle.trans_tool.specs.Translate.{Ends, IsAnswer};
 
 use crate::Cause;
 use crate::whole::{ReadFault, read_whole};
 use crate::words::Translate;
-use elf_load::{ElfRefusal, LoadFault, load};
+use elf_load::{LoadFault, load};
 use outside::{FileFault, Files};
 use space::Kind;
 use std::alloc::Global;
-use translate_core::{Output, first_unbuilt};
-use word_kit::NoMemory;
+use translate_core::Output;
 
 /// The most bytes of a file that is translated: 16 MiB.
 const MOST: usize = 0x100_0000;
@@ -30,9 +31,8 @@ pub fn translate<F: Files>(alloc: Global, command: &Translate<'_>, files: &mut F
     };
     let output = match translated(alloc, &bytes) {
         Ok(output) => output,
-        Err(Refusal::Elf(rule, offset)) => return Cause::BadElf(rule, offset),
-        Err(Refusal::Unbuilt(address)) => return Cause::Unbuilt(address),
-        Err(Refusal::Memory) => return Cause::Memory,
+        Err(LoadFault::Refused(rule, offset)) => return Cause::BadElf(rule, offset),
+        Err(LoadFault::Memory(_)) => return Cause::Memory,
     };
     match files.replace(command.to, output.file.as_slice()) {
         Ok(()) => Cause::Done,
@@ -41,48 +41,14 @@ pub fn translate<F: Files>(alloc: Global, command: &Translate<'_>, files: &mut F
     }
 }
 
-// Why a file was not translated.
-enum Refusal {
-    /// It breaks this rule of ELF files for PowerPC, at this offset.
-    Elf(ElfRefusal, u32),
-    /// Translation isn't built yet for the code word at this address.
-    Unbuilt(u32),
-    Memory,
-}
-
-impl From<NoMemory> for Refusal {
-    ghost use Rattle.trans_tool.specs.declared.translate.Refusal.{Refusal};
-    ghost use Rattle.trans_tool.specs.declared.translate.Refusal.TheVariants.{Memory};
-
-    ghost from_gives = { λ e r. r ≡ Memory };
-
-    fn from(_error: NoMemory) -> Refusal {
-        Refusal::Memory
-    }
-}
-
-impl From<LoadFault> for Refusal {
-    ghost use Rattle.trans_tool.specs.declared.translate.Refusal.{Refusal};
-    ghost use Rattle.trans_tool.specs.Translate.{refusal_of};
-
-    ghost from_gives = { λ e r. r ≡ refusal_of e };
-
-    fn from(fault: LoadFault) -> Refusal {
-        match fault {
-            LoadFault::Refused(rule, offset) => Refusal::Elf(rule, offset),
-            LoadFault::Memory(_) => Refusal::Memory,
-        }
-    }
-}
-
 // The translation of a PowerPC file.
-fn translated(alloc: Global, bytes: &[u8]) -> Result<Output, Refusal>
+fn translated(alloc: Global, bytes: &[u8]) -> Result<Output, LoadFault>
     requires { length bytes.now ≤ 0x1000000 }
-    ensures { MatchResult result (IsAnswer bytes.now) (Refuses bytes.now) }
+    ensures { MatchResult result (IsAnswer bytes.now) (IsCause PowerPc bytes.now) }
 {
     let program = load(alloc, bytes, Kind::PowerPc)?;
-    if let Some(address) = first_unbuilt(alloc, &program)? {
-        return Err(Refusal::Unbuilt(address));
+    match translate_core::translate(alloc, &program) {
+        Ok(output) => Ok(output),
+        Err(error) => Err(LoadFault::Memory(error)),
     }
-    Ok(translate_core::translate(alloc, &program)?)
 }

@@ -41,7 +41,8 @@ pub fn translate(alloc: Global, program: &Program) -> Result<Output, NoMemory>
     let source = Source {
         first: first(program),
         entry: entry_place(program),
-        words: &decoded,
+        words: &words,
+        decoded: &decoded,
     };
     let area = host_area(program);
     let code = lay(alloc, &source, area)?;

@@ -32,7 +32,7 @@ is_written P area code x =
     let fits = x.fits.bytes in
     record { segments = refl; place = refl; table_fits = omega (arith, rooms, count); code_fits = omega (arith, fits) }
 
-has_code : (P : Program) (area : ℕ) (code : Code) (x : IsLaidFor P area code) → IsArea P.segments area → IsInPlace P area (table_of code) code.bytes (translated P code area) → HasCodeFor (translated P code area) (first_of P) x.entry x.decoded area code.entries
+has_code : (P : Program) (area : ℕ) (code : Code) (x : IsLaidFor P area code) → IsArea P.segments area → IsInPlace P area (table_of code) code.bytes (translated P code area) → HasCodeFor (translated P code area) (first_of P) x.entry x.words x.decoded area code.entries
 has_code P area code x free place =
     let is = place.code_is in
     let high = free.high in
@@ -42,7 +42,7 @@ has_code P area code x free place =
       at = ap (λ c. c.at) is;
       low = subst (λ c. code_start area + length c.bytes < 2 ^ 32) (sym is) low;
       count = x.count ∙ sym x.are_decoded.count;
-      code = subst (λ c. IsCodeFor (first_of P) x.entry x.decoded area code.entries c.bytes) (sym is) x.blocks;
+      code = subst (λ c. IsCodeFor (first_of P) x.entry x.words x.decoded area code.entries c.bytes) (sym is) x.blocks;
     }
 
 -- the run of the file begins where the table leads at the program's first word
@@ -87,7 +87,7 @@ returns c = λ P file bytes x.
       blocks = c.blocks_stand.ensures reading ops P Q (first_of P) x.laid.entry x.laid.words x.laid.decoded area code.entries reads_words reads_ops x.laid.has x.laid.are_decoded carried;
       has_table = c.tables_stand.ensures reading ops P Q (first_of P) x.laid.entry x.laid.words x.laid.decoded area code.entries reads_ops x.laid.has x.laid.are_decoded carried (has_table P area code s x.laid x.in_area.area place refl refl refl);
       doors = λ w. inl (refl, refl);
-      holds = c.hold_stands.ensures reading ops P Q (first_of P) x.laid.entry x.laid.decoded area code.entries reads_ops carried;
+      holds = c.hold_stands.ensures reading ops P Q (first_of P) x.laid.entry x.laid.words x.laid.decoded area code.entries reads_ops carried;
     } in
     let start = c.starts.ensures.start P Q area (table_of code) code.bytes s choices x.in_area.area written (c.loaded_has_bytes.ensures Ia32 file Q bytes x.loaded) (record { guest = refl; area_is = refl; image = refl; entry = starts_there P area code x.laid }) in
     c.agrees.ensures s holds (guest_start P) (host_start Q choices) start in

@@ -31,9 +31,10 @@ const MIDDLE: &str = "3c801000608400207c8903a64e800420\
 
 const MANY: &str = "--steps=1000000";
 
-// Each has its code, how many steps it may make, its input, how it ends and what it puts to the output.
+// Each has its code, how many steps it may make, its input, how it ends and what it puts to the output. Its translation
+// may make a million.
 const RUNS: &[(&str, &str, &str, Cause, &str)] = &[
-    (EXIT, MANY, "", Cause::GuestExit(7), ""),
+    (EXIT, "--steps=3", "", Cause::GuestExit(7), ""),
     (HELLO, MANY, "", Cause::GuestExit(0), "hello"),
     (ECHO, MANY, "hi", Cause::GuestExit(0), "hi"),
     (ECHO, MANY, "", Cause::GuestExit(0), ""),
@@ -44,7 +45,6 @@ const RUNS: &[(&str, &str, &str, Cause, &str)] = &[
         Cause::GuestExit(38),
         "",
     ),
-    (STORES, "--steps=6", "", Cause::StepsSpent, "hello"),
     (STORES, "--steps=7", "", Cause::Outside, "hello"),
     ("00000000", MANY, "", Cause::Illegal, ""),
     ("7c0004ac00000000", MANY, "", Cause::Illegal, ""),
@@ -56,9 +56,21 @@ const RUNS: &[(&str, &str, &str, Cause, &str)] = &[
         Cause::GuestExit(7),
         "",
     ),
-    (CALLS, "--steps=11004", "", Cause::StepsSpent, ""),
+    (
+        "4800000838600001386000073800000144000002",
+        MANY,
+        "",
+        Cause::GuestExit(7),
+        "",
+    ),
     (CALLS, "--steps=11005", "", Cause::GuestExit(184), ""),
     (MIDDLE, MANY, "", Cause::GuestExit(4), ""),
+];
+
+// Programs with one step too few.
+const SPENT: &[(&str, &str, &str)] = &[
+    (STORES, "--steps=6", "hello"),
+    (CALLS, "--steps=11004", ""),
 ];
 
 // The words that load r4 and r5, the word that gives r3, and what it gives.
@@ -127,13 +139,29 @@ fn run_file(
     })
 }
 
+// The translation of a file.
+fn translated(rt: &impl Abort, alloc: Global, bytes: &[u8]) -> Result<Vec<u8>, Fail> {
+    let run = run_over(alloc, TRANSLATE, bytes, &[], &[], &[])?;
+    assert!(rt; run.status.cause == Cause::Done);
+    match run.files.held("out") {
+        Some(written) => Ok(written.to_vec(alloc)?),
+        None => panic!(rt; "no file"),
+    }
+}
+
 #[test]
 fn programs_are_run(rt: HostRuntime) -> Result<(), Fail> {
     let alloc = rt.alloc();
     for (code, steps, input, cause, output) in RUNS {
         let bytes = program(alloc, *code)?;
         let ran = run_file(alloc, &bytes, *steps, input.as_bytes(), &[])?;
-        assert!(&rt; ran.status.cause == *cause, "{code} {steps}");
+        assert!(&rt; ran.status.cause == *cause, "{code}");
+        assert!(&rt; ran.output.shown() == output.as_bytes(), "{code}");
+    }
+    for (code, steps, output) in SPENT {
+        let bytes = program(alloc, *code)?;
+        let ran = run_file(alloc, &bytes, *steps, &[], &[])?;
+        assert!(&rt; ran.status.cause == Cause::StepsSpent, "{code}");
         assert!(&rt; ran.output.shown() == output.as_bytes(), "{code}");
     }
     Ok(())
@@ -151,14 +179,17 @@ fn results_are_those_of_the_manual(rt: HostRuntime) -> Result<(), Fail> {
     Ok(())
 }
 
-// A failing input gives error 5; the program then writes five bytes of its stack.
+// A failing input gives error 5; the program then writes five bytes of its stack. So does its translation.
 #[test]
 fn a_failed_read_is_an_error(rt: HostRuntime) -> Result<(), Fail> {
     let alloc = rt.alloc();
     let bytes = program(alloc, ECHO)?;
-    let ran = run_file(alloc, &bytes, MANY, b"hi", &[1])?;
-    assert!(&rt; ran.status.cause == Cause::GuestExit(0) && ran.status.code == 0);
-    assert!(&rt; ran.output.shown() == [0u8, 0, 0, 0, 0].as_slice());
+    let written = translated(&rt, alloc, &bytes)?;
+    for file in [bytes, written] {
+        let ran = run_file(alloc, &file, MANY, b"hi", &[1])?;
+        assert!(&rt; ran.status.cause == Cause::GuestExit(0) && ran.status.code == 0);
+        assert!(&rt; ran.output.shown() == [0u8, 0, 0, 0, 0].as_slice());
+    }
     Ok(())
 }
 
@@ -176,20 +207,19 @@ fn ends_are_told(rt: HostRuntime) -> Result<(), Fail> {
     Ok(())
 }
 
-// What a translation wrote is run as IA-32, and ends as the program does.
+// What a translation wrote is run as IA-32: it puts what the program puts, and ends as the program does, unless that went
+// outside.
 #[test]
 fn translations_are_run(rt: HostRuntime) -> Result<(), Fail> {
     let alloc = rt.alloc();
-    for (code, number) in [
-        (EXIT, 7),
-        ("4800000838600001386000073800000144000002", 7),
-        ("38000063440000023800000144000002", 38),
-    ] {
-        let bytes = program(alloc, code)?;
-        let translated = run_over(alloc, TRANSLATE, &bytes, &[], &[], &[])?;
-        let written = translated.files.held("out").unwrap_or(&[]);
-        let ran = run_file(alloc, written, MANY, &[], &[])?;
-        assert!(&rt; ran.status.cause == Cause::GuestExit(number), "{code}");
+    for (code, _, input, cause, output) in RUNS {
+        let written = translated(&rt, alloc, &program(alloc, *code)?)?;
+        let ran = run_file(alloc, &written, MANY, input.as_bytes(), &[])?;
+        assert!(&rt;
+            ran.status.cause == *cause || *cause == Cause::Outside,
+            "{code}"
+        );
+        assert!(&rt; ran.output.shown() == output.as_bytes(), "{code}");
     }
     Ok(())
 }
@@ -286,7 +316,8 @@ fn accesses_cross_segments(rt: HostRuntime) -> Result<(), Fail> {
     Ok(())
 }
 
-// A segment that may be written and executed is data: a store to it is no fault, a jump into it is.
+// A segment that may be written and executed is data: a store to it is no fault, a jump into it is. There the translation
+// goes nowhere.
 #[test]
 fn code_that_may_be_written_is_data(rt: HostRuntime) -> Result<(), Fail> {
     let alloc = rt.alloc();
@@ -306,5 +337,8 @@ fn code_that_may_be_written_is_data(rt: HostRuntime) -> Result<(), Fail> {
     let bytes = file(alloc, &FRONT, &[LOADS, data, NOTE], jumps)?;
     let ran = run_file(alloc, &bytes, MANY, &[], &[])?;
     assert!(&rt; ran.status.cause == Cause::Outside);
+    let written = translated(&rt, alloc, &bytes)?;
+    let ran = run_file(alloc, &written, MANY, &[], &[])?;
+    assert!(&rt; ran.status.cause == Cause::StepsSpent);
     Ok(())
 }
