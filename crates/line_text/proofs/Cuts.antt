@@ -1,6 +1,6 @@
 -- Cutting at a separator.
-use Rattle.std.proofs.Common.{◌≡◌, ◌≢◌, ℕ, zero, suc, ◌+◌, ◌<◌, ◌++◌, ◌==◌, List, [], ◌∷◌, get_or, take, drop, refl, sym, ap, subst, ◌∙◌, arith, false, true, length, add-one}
-use Rattle.std.specs.List.{All, AllByRecursion, slice_split}
+use Rattle.std.proofs.Common.{◌≡◌, ℕ, ◌++◌, ◌==◌, List, [], ◌∷◌, refl, sym, ap, ◌∙◌, arith, false, true}
+use Rattle.std.specs.List.{All, slice_split}
 use Rattle.std.proofs.lemmas.List.Splits.{slice_split_none, slice_split_at}
 use Rattle.std.proofs.lemmas.List.Elements.{All-cons, All-nil}
 use Rattle.line_text.specs.Lines.{IsFree}

@@ -1,13 +1,13 @@
 -- Numbers in hexadecimal: what is read is what is written.
-use Rattle.std.proofs.Common.{◌≡◌, ◌≢◌, ℕ, ◌+◌, ◌*◌, ◌/◌, ◌%◌, ◌<◌, ◌^◌, ◌++◌, ◌↔◌, List, [], ◌∷◌, length, get_or, take, Result, Ok, Err, MatchResult, Option, Some, None, MatchOption, IsTrue, Bool, true, false, refl, sym, ap, subst, ◌∙◌, arith, zero, suc}
+use Rattle.std.proofs.Common.{◌≡◌, ℕ, ◌+◌, ◌*◌, ◌<◌, ◌^◌, ◌++◌, ◌↔◌, List, length, get_or, take, Result, Ok, Err, MatchResult, Option, Some, None, MatchOption, IsTrue, Bool, true, false, sym, ap, subst, ◌∙◌, arith, zero, suc}
 use Rattle.std.proofs.Math.Seq.{take-append_seam}
 use Rattle.std.specs.Int.{w32, to_be_bytes}
 use Rattle.std.specs.Result.{is_err}
 use Rattle.std.specs.List.{slice_index}
-use Rattle.std.proofs.lemmas.Nat.{from_be_bytes-to_be_bytes_4, be_bytes_4}
+use Rattle.std.proofs.lemmas.Nat.{be_bytes_4}
 use Rattle.hex.specs.Hex.{encode_lower, decode_sized, lower_digits}
 use Rattle.hex.specs.declared.error.FromHexError.{FromHexError}
-use Rattle.hex.proofs.HexLemmas.{length-encode_with, decode_of-encode_lower, decode_sized-twice, decode_sized-ok}
+use Rattle.hex.proofs.HexLemmas.{length-encode_with, decode_of-encode_lower, decode_sized-twice}
 
 -- the front of a buffer, into which digits were written
 pub front : (written rest bytes : List ℕ) → written ≡ encode_lower bytes → take (2 * length bytes) (written ++ rest) ≡ encode_lower bytes

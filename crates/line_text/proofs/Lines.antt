@@ -1,6 +1,6 @@
 -- Words and the lines that they make.
-use Rattle.std.proofs.Common.{◌≡◌, ℕ, ◌<◌, ◌≤◌, ◌++◌, ◌==◌, List, [], ◌∷◌, length, get_or, drop, refl, sym, ap, subst, ◌∙◌, arith, false, true, length-append, append_assoc}
-use Rattle.std.specs.List.{AllByRecursion, join_with_byte, slice_split, flat_map}
+use Rattle.std.proofs.Common.{◌≡◌, ℕ, ◌<◌, ◌++◌, ◌==◌, List, [], ◌∷◌, length, get_or, drop, refl, sym, ap, subst, ◌∙◌, arith, false, length-append, append_assoc}
+use Rattle.std.specs.List.{AllByRecursion, join_with_byte, slice_split}
 use Rattle.std.proofs.lemmas.List.Splits.{slice_split_none, slice_split_at}
 use Rattle.line_text.specs.Lines.{line_of, lines_of, IsFree}
 use Rattle.line_text.proofs.Cuts.{all-free, same, cut-none}

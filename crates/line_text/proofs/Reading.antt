@@ -1,14 +1,14 @@
 -- What was read of a text decides which line is the first bad one.
-use Rattle.std.proofs.Common.{◌≡◌, ◌≢◌, ◌⊎◌, inl, inr, ℕ, zero, suc, ◌+◌, ◌<◌, ◌≤◌, ◌++◌, List, [], ◌∷◌, length, take, drop, map, Option, Some, None, refl, sym, ap, subst, ◌∙◌, arith, append_assoc, length-append}
-use Rattle.std.specs.List.{AllByRecursion, flat_map}
+use Rattle.std.proofs.Common.{◌≡◌, ◌≢◌, ◌⊎◌, inl, inr, ℕ, zero, suc, ◌+◌, ◌<◌, ◌≤◌, ◌++◌, List, [], ◌∷◌, length, take, drop, map, Some, refl, sym, ap, subst, ◌∙◌, arith, append_assoc, length-append}
+use Rattle.std.specs.List.{flat_map}
 use Rattle.std.proofs.lemmas.Bool.{cases_lt}
 use Rattle.std.proofs.lemmas.List.{map-append, length-map, take-append-drop}
 use Rattle.std.proofs.lemmas.Grind.{flat_map-append}
 use Rattle.std.proofs.Math.Seq.{take-append_seam, take-append-add, take-length}
-use Rattle.line_text.specs.Lines.{line_of, lines_of, IsFree}
+use Rattle.line_text.specs.Lines.{lines_of, IsFree}
 use Rattle.line_text.specs.FirstBad.{Begins, IsFirstBad}
-use Rattle.line_text.proofs.Lines.{AreWords, line-last, line-first, line-then, no-line}
-use Rattle.line_text.proofs.Grammars.{Grammar, IsGrammar, run, line, IsText, append-nil, run-append, run-shows, items-fit, ended-shows, lines-of, unknown, refused, whole, begins-shown}
+use Rattle.line_text.proofs.Lines.{line-last, line-first, line-then, no-line}
+use Rattle.line_text.proofs.Grammars.{Grammar, IsGrammar, run, line, IsText, append-nil, run-append, items-fit, ended-shows, lines-of, unknown, refused, whole, begins-shown}
 
 -- a good state and the bytes that follow the lines that lead to it; n is the number of the next line
 pub record IsRead (g : Grammar) (text rest : List ℕ) (s : g.State) (n : ℕ) : Type 0 where

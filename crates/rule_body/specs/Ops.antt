@@ -9,7 +9,7 @@ use Rattle.ia_codec.specs.declared.op.UnaryOp.TheVariants.{Not, Neg, Div, Idiv}
 use Rattle.ia_codec.specs.declared.op.ExtendOp.{ExtendOp}
 use Rattle.ia_codec.specs.declared.op.ExtendOp.TheVariants.{MovzxByte, MovzxHalf, MovsxByte, MovsxHalf}
 use Rattle.ia_codec.specs.declared.op.Op.{Op}
-use Rattle.ia_codec.specs.declared.op.Op.TheVariants.{AluTo, AluFrom, AluImm, TestReg, TestImm, Unary, Imul, MovTo, MovFrom, MovImm, MovToImm, MovHalfTo, MovByteTo, MovByteFrom, Shift, ShiftByCl, Lea, Extend, Bswap, Set, Cmov, Bsr, Cdq, Jcc, Jmp, JmpTo, Int80, Int3, Ud2}
+use Rattle.ia_codec.specs.declared.op.Op.TheVariants.{AluTo, AluFrom, AluImm, TestReg, TestImm, Unary, Imul, MovTo, MovFrom, MovImm, MovToImm, MovHalfTo, MovByteTo, MovByteFrom, Shift, ShiftByCl, Lea, Extend, Bswap, Set, Cmov, Bsr, Jcc, Jmp, JmpTo, Int80, Int3, Ud2}
 use Rattle.rule_body.specs.declared.operands.OpParts.{OpParts}
 
 -- all but jumps, calls, traps and divisions

@@ -1,5 +1,5 @@
 -- Which instructions a window may have. This project's own.
-use Rattle.std.specs.Prelude.{ℕ, ◌==◌, ◌&&◌, Bool, true, false, not}
+use Rattle.std.specs.Prelude.{◌==◌, ◌&&◌, Bool, true, false, not}
 use Rattle.ppc_isa.specs.declared.instr.Instr.{Instr}
 use Rattle.ppc_isa.specs.declared.instr.Instr.TheVariants.{Immediate, LogicImmediate, Load, Store, LoadUpdate, StoreUpdate, Multiple, TrapImmediate, CompareImmediate, Branch, BranchConditional, SystemCall, Arithmetic, Trap, LoadIndexed, StoreIndexed, LoadIndexedUpdate, StoreIndexedUpdate, BranchRegister}
 use Rattle.ppc_isa.specs.declared.instr.ArithmeticOp.TheVariants.{Divw, Divwu}

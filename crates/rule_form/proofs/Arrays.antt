@@ -1,16 +1,13 @@
 -- A rule is told by its lists: what is past them in its arrays is fixed.
-use Rattle.std.proofs.Common.{◌≡◌, ℕ, zero, suc, ◌+◌, ◌≤◌, ◌++◌, Bool, false, List, [], ◌∷◌, length, take, drop, refl, sym, ap, subst, ◌∙◌, arith, Option, ℤ}
+use Rattle.std.proofs.Common.{◌≡◌, ℕ, zero, suc, ◌+◌, ◌≤◌, ◌++◌, Bool, false, List, [], ◌∷◌, length, take, drop, refl, sym, ap, ◌∙◌, arith, Option, ℤ}
 use Rattle.std.specs.List.{AllByRecursion}
 use Rattle.std.proofs.lemmas.List.{take-append-drop}
-use Rattle.word_kit.specs.declared.formulas.Refutation.{Refutation}
 use Rattle.rule_body.specs.declared.goal.Goal.{Goal}
-use Rattle.rule_body.specs.declared.goal.DeadSet.{DeadSet}
 use Rattle.rule_body.specs.declared.goal.Guest.{Guest}
 use Rattle.rule_body.specs.declared.line.HostLine.{HostLine}
 use Rattle.rule_body.specs.declared.body.Body.{Body}
 use Rattle.rule_body.specs.declared.rule.Rule.{Rule}
-use Rattle.rule_body.specs.Templates.{Template}
-use Rattle.rule_body.specs.Goals.{guests, guests_of, template_of}
+use Rattle.rule_body.specs.Goals.{guests, guests_of}
 use Rattle.rule_body.specs.Bodies.{lines_of, no_line}
 use Rattle.rule_body.specs.Rules.{IsRule}
 use Rattle.rule_body.proofs.Guests.{length-guests}

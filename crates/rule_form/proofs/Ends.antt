@@ -1,5 +1,5 @@
 -- Where a text ends, and what that says.
-use Rattle.std.proofs.Common.{◌≡◌, ◌≢◌, ℕ, ◌≤◌, List, [], ◌∷◌, length, map, refl, sym, subst, ◌∙◌, arith, Vec, Global, Result, Ok, Err, IfOk, IfErr, MatchResult, Some}
+use Rattle.std.proofs.Common.{◌≡◌, ◌≢◌, ℕ, List, [], ◌∷◌, length, map, refl, sym, subst, ◌∙◌, arith, Vec, Global, Result, Ok, Err, IfOk, IfErr, MatchResult}
 use Rattle.std.specs.List.{AllByRecursion}
 use Rattle.line_text.specs.FirstBad.{IsFirstBad}
 use Rattle.line_text.proofs.Reading.{IsRead, bad-end, good-end, text-same, text-good}
@@ -10,7 +10,7 @@ use Rattle.rule_form.specs.declared.progress.Progress.TheVariants as progress
 use Rattle.rule_form.specs.declared.fault.TextFault.{TextFault}
 use Rattle.rule_form.specs.declared.fault.TextFault.TheVariants as fault
 use Rattle.rule_form.specs.Texts.{RuleText, AreWritten, IsWritten, IsRuleText, written, text_of}
-use Rattle.rule_form.specs.Machine.{State, Start, Between, InGuests, InDead, InHosts, InClauses}
+use Rattle.rule_form.specs.Machine.{State, Start, Between}
 use Rattle.rule_form.specs.Faults.{IsFault, IsMemory}
 use Rattle.rule_form.specs.Reached.{state_of, IsReached}
 use Rattle.rule_form.proofs.RuleGrammar.{rules, is-grammar}

@@ -1,7 +1,7 @@
 -- Goals that grow by a word.
-use Rattle.std.proofs.Common.{◌≡◌, ◌≢◌, ◌⊎◌, inl, inr, ℕ, zero, suc, ◌+◌, ◌-◌, ◌<◌, ◌≤◌, ◌++◌, ◌↔◌, List, [], ◌∷◌, length, take, drop, slice_get, slice_set, count_by, refl, sym, ap, subst, ◌∙◌, arith, add-one, Bool, true, false, cond, IsTrue, Option, Some, None, Contains, length-append, fold, max}
+use Rattle.std.proofs.Common.{◌≡◌, ◌≢◌, ◌⊎◌, inl, inr, ℕ, zero, suc, ◌+◌, ◌<◌, ◌≤◌, ◌++◌, List, [], ◌∷◌, length, take, drop, slice_get, slice_set, count_by, refl, sym, ap, subst, ◌∙◌, arith, add-one, Bool, true, false, cond, IsTrue, Some, None, Contains, length-append, fold, max}
 use Rattle.std.specs.Prelude.{if◌then◌else◌, ◌||◌}
-use Rattle.std.proofs.lemmas.Bool.{false≢true, cases_lt}
+use Rattle.std.proofs.lemmas.Bool.{cases_lt}
 use Rattle.std.proofs.lemmas.List.Elements.{Contains-append_left, Contains-append_right, Contains-append_cases}
 use Rattle.std.proofs.lemmas.List.Sums.{sum_by-cons}
 use Rattle.std.specs.List.{AllByRecursion, flat_map}
@@ -11,7 +11,7 @@ use Rattle.ppc_isa.specs.Locations.{locations_written}
 use Rattle.rule_body.specs.declared.goal.Guest.{Guest}
 use Rattle.rule_body.specs.Rows.{is_open, is_ending, is_plain, has_access}
 use Rattle.rule_body.specs.Numbers.{numbers, AreNumbered, highest}
-use Rattle.rule_body.specs.Templates.{IsGuest, AreGuests, IsWindow, IsBranching}
+use Rattle.rule_body.specs.Templates.{AreGuests, IsWindow, IsBranching}
 use Rattle.rule_body.specs.Goals.{guests}
 use Rattle.line_text.proofs.Grammars.{all-append}
 use Rattle.rule_body.specs.declared.line.HostLine.{HostLine}
@@ -21,7 +21,7 @@ use Rattle.rule_body.specs.Lines.{IsHostLine}
 use Rattle.rule_body.specs.Bodies.{AreHostLines}
 use Rattle.rule_form.specs.Machine.{IsFront}
 use Rattle.rule_form.specs.Partial.{AccessAt, WrittenAt}
-use Rattle.rule_form.proofs.Windows.{one-instruction, one-window, window-less, window-more, ends, branching, not-branching, fold-max-append, numbers-append, count-append}
+use Rattle.rule_form.proofs.Windows.{one-instruction, one-window, window-less, ends, branching, not-branching, fold-max-append, numbers-append, count-append}
 
 pub guests-set : (ws : List ℕ) (fs : List Bool) (n w : ℕ) (f : Bool) → n < length ws → length fs ≡ length ws
     → take (n + 1) (guests (slice_set ws n w) (slice_set fs n f)) ≡ take n (guests ws fs) ++ (let g : Guest = record { word = w; free = f } in g) ∷ []

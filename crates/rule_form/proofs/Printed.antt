@@ -1,5 +1,5 @@
 -- What is written, piece by piece.
-use Rattle.std.proofs.Common.{◌≡◌, ℕ, ◌-◌, ◌/◌, ◌%◌, ◌≤◌, ◌++◌, ◌==◌, List, [], ◌∷◌, length, map, take, drop, get_or, refl, sym, ap, ◌∙◌, arith, append_assoc, codes, cond, Bor, Result, Ok, Err, OnOk, Option, Some, None, slice_get, zero, suc, ◌+◌, ◌<◌, add-one, ℤ}
+use Rattle.std.proofs.Common.{◌≡◌, ℕ, ◌-◌, ◌/◌, ◌%◌, ◌≤◌, ◌++◌, ◌==◌, List, [], ◌∷◌, length, map, take, drop, get_or, refl, sym, ap, ◌∙◌, arith, append_assoc, codes, cond, Bor, Result, Ok, Err, OnOk, Some, None, slice_get, zero, suc, ◌+◌, ◌<◌, add-one}
 use Rattle.std.proofs.Math.Seq.{take-length}
 use Rattle.std.specs.declared.alloc.AllocError.{AllocError}
 use Rattle.std.specs.List.{flat_map, join_with_byte}
@@ -7,12 +7,10 @@ use Rattle.line_text.specs.Lines.{line_of}
 use Rattle.std.proofs.lemmas.Grind.{flat_map-append}
 use Rattle.std.proofs.lemmas.List.{map-append}
 use Rattle.std.specs.List.{AllByRecursion}
-use Rattle.rule_body.specs.declared.goal.Guest.{Guest}
-use Rattle.rule_body.specs.declared.line.HostLine.{HostLine}
 use Rattle.rule_body.specs.declared.rule.Rule.{Rule}
 use Rattle.rule_body.specs.Templates.{Template}
 use Rattle.rule_form.specs.Words.{chosen, listed}
-use Rattle.rule_form.specs.Texts.{Item, Title, Open, GuestLine, At, Dead, Host, Take, Clause, End, words_of, RuleText, front_of, opened, written, items_of, text_of}
+use Rattle.rule_form.specs.Texts.{Item, Title, Open, GuestLine, At, Dead, Host, Take, Clause, End, words_of, RuleText, front_of, opened, written, text_of}
 
 join-all : (by : ℕ) (w : List ℕ) (ws : List (List ℕ)) → join_with_byte by (w ∷ ws) ≡ w ++ flat_map (λ v. by ∷ v) ws
 join-all by w [] = sym (nil w)

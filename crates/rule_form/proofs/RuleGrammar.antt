@@ -1,5 +1,5 @@
 -- The grammar of rule texts: each text is read, what was read is shown, and each good state can be closed.
-use Rattle.std.proofs.Common.{◌≡◌, ◌≢◌, ◌⊎◌, inl, inr, ℕ, zero, suc, ◌+◌, ◌-◌, ◌<◌, ◌≤◌, ◌^◌, ◌++◌, List, [], ◌∷◌, length, map, max, fold, refl, sym, ap, subst, ◌∙◌, arith, Bool, true, false, cond, IsTrue, Option, Some, None, ℤ, count_by, slice_get, length-append, append_assoc, lit<, IsBitSet, Contains}
+use Rattle.std.proofs.Common.{◌≡◌, inl, inr, ℕ, zero, suc, ◌<◌, ◌≤◌, ◌^◌, ◌++◌, List, [], ◌∷◌, length, map, refl, sym, ap, subst, ◌∙◌, arith, Bool, true, false, Option, Some, None, ℤ, slice_get, length-append, append_assoc, lit<}
 use Rattle.std.specs.List.{AllByRecursion, flat_map}
 use Rattle.std.specs.Int.Bits.{and_zero_l}
 use Rattle.std.proofs.lemmas.Grind.{flat_map-append}
@@ -12,7 +12,7 @@ use Rattle.line_text.proofs.Grammars.{Grammar, IsGrammar, run, append-nil, all-a
 use Rattle.rule_body.specs.declared.goal.Guest.{Guest}
 use Rattle.rule_body.specs.declared.line.HostLine.{HostLine}
 use Rattle.rule_body.specs.Numbers.{numbers, highest}
-use Rattle.rule_body.specs.Templates.{Template, IsGuest, AreGuests, IsWindow, IsPlaced, IsTemplate, slot_count, IsBranching}
+use Rattle.rule_body.specs.Templates.{Template, AreGuests, IsWindow, IsPlaced, IsTemplate, slot_count}
 use Rattle.ia_codec.specs.declared.op.Op.{Op}
 use Rattle.rule_body.specs.declared.line.Hole.{Hole}
 use Rattle.rule_body.specs.Lines.{IsHostLine, IsHoleFor}

@@ -1,5 +1,5 @@
 -- Words have no separators.
-use Rattle.std.proofs.Common.{◌≡◌, ◌≢◌, ℕ, zero, suc, ◌+◌, ◌/◌, ◌%◌, ◌<◌, ◌≤◌, ◌^◌, ◌++◌, ◌==◌, ◌&&◌, not, List, [], ◌∷◌, map, get_or, length, refl, ap, sym, ◌∙◌, arith, decimal, nat_lt, cond, Bool, true, false, IsTrue, codes}
+use Rattle.std.proofs.Common.{◌≡◌, ℕ, zero, suc, ◌/◌, ◌%◌, ◌<◌, ◌^◌, ◌++◌, ◌==◌, ◌&&◌, not, List, [], ◌∷◌, get_or, refl, arith, decimal, Bool, true, false, IsTrue}
 use Rattle.std.specs.List.{AllByRecursion, join_with_byte, slice_index}
 use Rattle.std.specs.Str.Parse.{AllDigits}
 use Rattle.std.proofs.lemmas.Fmt.{decimal_is_IsNumeral}

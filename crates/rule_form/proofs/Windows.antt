@@ -1,19 +1,19 @@
 -- Windows that grow by a word.
-use Rattle.std.proofs.Common.{◌≡◌, ◌≢◌, ◌⊎◌, inl, inr, ℕ, zero, suc, ◌+◌, ◌-◌, ◌*◌, ◌<◌, ◌≤◌, ◌^◌, ◌++◌, List, [], ◌∷◌, length, get_or, map, max, fold, slice_get, refl, sym, ap, subst, ◌∙◌, arith, Bool, true, false, cond, IsTrue, Option, Some, None, count_by, length-append, append_assoc}
-use Rattle.std.specs.List.{AllByRecursion, flat_map}
+use Rattle.std.proofs.Common.{◌≡◌, ℕ, ◌+◌, ◌-◌, ◌*◌, ◌<◌, ◌≤◌, ◌^◌, ◌++◌, List, [], ◌∷◌, length, max, fold, slice_get, refl, sym, ap, subst, ◌∙◌, arith, Bool, true, false, cond, Some, count_by, length-append}
+use Rattle.std.specs.List.{flat_map}
 use Rattle.std.proofs.lemmas.Grind.{flat_map-append}
 use Rattle.std.proofs.lemmas.List.Sums.{sum_by-append}
 use Rattle.std.proofs.lemmas.Nat.{pow-add, mul-add-lt}
 use Rattle.std.proofs.Math.Nat.{mul_comm}
 use Rattle.ppc_isa.specs.declared.instr.Instr.{Instr}
 use Rattle.ppc_isa.specs.declared.instr.Instr.TheVariants.{Immediate, LogicImmediate, Load, Store, LoadUpdate, StoreUpdate, Multiple, TrapImmediate, CompareImmediate, Rotate, Branch, BranchConditional, SystemCall, Arithmetic, ArithmeticUnary, Logic, ShiftImmediate, LogicUnary, Compare, Trap, MoveFromCr, MoveToCr, MoveFromSpr, MoveToSpr, Sync, LoadIndexed, StoreIndexed, LoadIndexedUpdate, StoreIndexedUpdate, MoveCrField, CrLogic, Isync, BranchRegister}
-use Rattle.ppc_isa.specs.Legal.{IsWordOf, IsLegal, layout}
+use Rattle.ppc_isa.specs.Legal.{IsWordOf, layout}
 use Rattle.ppc_isa.specs.Word.{Field, Fit, word, width}
 use Rattle.ppc_isa.proofs.ReadWords.{read_legal}
 use Rattle.rule_body.specs.declared.goal.Guest.{Guest}
 use Rattle.rule_body.specs.Rows.{is_ending, has_access}
 use Rattle.rule_body.specs.Numbers.{numbers, AreNumbered, highest}
-use Rattle.rule_body.specs.Templates.{IsGuest, AreGuests, AreStraight, IsWindow, IsPlaced, IsEndingWord, IsBranching, slot_count}
+use Rattle.rule_body.specs.Templates.{IsGuest, AreGuests, AreStraight, IsWindow, IsBranching}
 
 append-nil : {A : Type 0} (xs : List A) → xs ++ [] ≡ xs
 append-nil [] = refl

@@ -1,5 +1,5 @@
 -- Words of lines: letters, and ops in hexadecimal.
-use Rattle.std.proofs.Common.{◌≡◌, ◌≢◌, ℕ, zero, suc, ◌+◌, ◌*◌, ◌/◌, ◌<◌, ◌≤◌, ◌++◌, List, [], ◌∷◌, length, map, take, drop, get_or, slice_set, refl, sym, ap, subst, ◌∙◌, arith, codes, Bool, true, false, cond, add-one, Option, Some, None, MatchOption, MatchResult, Result, Ok, Err}
+use Rattle.std.proofs.Common.{◌≡◌, ◌≢◌, ℕ, zero, suc, ◌+◌, ◌*◌, ◌/◌, ◌<◌, ◌≤◌, ◌++◌, List, [], ◌∷◌, length, map, take, drop, get_or, slice_set, refl, sym, ap, subst, ◌∙◌, arith, codes, Bool, true, false, add-one, Option, Some, None, MatchOption, MatchResult, Result, Ok, Err}
 use Rattle.std.specs.List.{AllByRecursion}
 use Rattle.std.specs.Result.{is_err}
 use Rattle.std.proofs.Math.Seq.{take-length, take-append_seam}

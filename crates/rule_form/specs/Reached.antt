@@ -1,11 +1,11 @@
 -- The state of the grammar that the code's progress is.
-use Rattle.std.specs.Prelude.{◌≡◌, Option, None, List, map}
+use Rattle.std.specs.Prelude.{map}
 use Rattle.rule_form.specs.declared.progress.Progress.{Progress}
 use Rattle.rule_form.specs.declared.progress.Progress.TheVariants as progress
 use Rattle.rule_body.specs.Goals.{guests_of, template_of, IsTidy, IsGoal}
 use Rattle.rule_body.specs.Bodies.{lines_of, IsBody}
-use Rattle.rule_form.specs.Texts.{RuleText, written}
-use Rattle.rule_form.specs.Machine.{State, Start, Between, InGuests, InDead, InHosts, InClauses, HaveRoom}
+use Rattle.rule_form.specs.Texts.{written}
+use Rattle.rule_form.specs.Machine.{State, Start, Between, InGuests, InDead, InHosts, InClauses}
 use Rattle.rule_form.specs.Partial.{IsPartial, IsPartialBody}
 use Rattle.rule_body.specs.Rules.{IsRule}
 use Rattle.std.specs.List.{AllByRecursion}

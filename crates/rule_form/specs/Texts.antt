@@ -1,12 +1,11 @@
 -- The text of rules: line by line, in order.
-use Rattle.std.specs.Prelude.{◌≡◌, ℕ, ◌+◌, ◌<◌, ◌≤◌, ◌^◌, ◌++◌, if◌then◌else◌, Bool, List, [], ◌∷◌, length, map, Option, Some, None, ℤ, codes}
+use Rattle.std.specs.Prelude.{◌≡◌, ℕ, ◌≤◌, ◌++◌, if◌then◌else◌, Bool, List, [], ◌∷◌, length, map, Option, ℤ, codes}
 use Rattle.std.specs.List.{AllByRecursion, flat_map}
 use Rattle.std.specs.Int.{w32, to_be_bytes}
 use Rattle.hex.specs.Hex.{encode_lower}
-use Rattle.ia_codec.specs.Spelling.{spelling, IsInProfile}
+use Rattle.ia_codec.specs.Spelling.{spelling}
 use Rattle.line_text.specs.Lines.{line_of}
 use Rattle.rule_body.specs.declared.goal.Guest.{Guest}
-use Rattle.rule_body.specs.declared.line.Hole.{Hole}
 use Rattle.rule_body.specs.declared.line.HostLine.{HostLine}
 use Rattle.rule_body.specs.declared.rule.Rule.{Rule}
 use Rattle.rule_body.specs.Templates.{Template, IsTemplate}

@@ -1,5 +1,5 @@
 -- How the parts of a rule are written.
-use Rattle.std.specs.Prelude.{ℕ, suc, ◌+◌, ◌/◌, ◌%◌, ◌++◌, ◌==◌, nat_lt, if◌then◌else◌, Bool, List, [], ◌∷◌, map, Option, Some, None, ℤ, pos, negsuc, decimal, codes}
+use Rattle.std.specs.Prelude.{ℕ, suc, ◌+◌, ◌/◌, ◌%◌, ◌==◌, nat_lt, if◌then◌else◌, Bool, List, [], ◌∷◌, map, Option, Some, None, ℤ, pos, negsuc, decimal, codes}
 use Rattle.std.specs.List.{join_with_byte}
 use Rattle.rule_body.specs.declared.line.Hole.{Hole}
 use Rattle.rule_body.specs.declared.line.Hole.TheVariants.{S, Z, H, N}

@@ -1,4 +1,4 @@
-use Rattle.std.proofs.Common.{◌≡◌, ◌∙◌, map, sym, subst, codes}
+use Rattle.std.proofs.Common.{◌∙◌, map, sym, subst, codes}
 use Rattle.std.proofs.lemmas.Bool.{false≢true}
 use Rattle.rule_body.specs.Rules.{AreRising}
 use Rattle.rule_form.specs.Words.{literal_word}

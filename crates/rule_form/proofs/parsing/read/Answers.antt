@@ -4,7 +4,7 @@ use Rattle.line_text.proofs.Reading.{bad-unknown, bad-place, read-on, bad-rest}
 use Rattle.rule_form.specs.Said.{item_of}
 use Rattle.rule_form.specs.Reached.{state_of}
 use Rattle.rule_form.proofs.RuleGrammar.{rules, is-grammar}
-use Rattle.rule_form.proofs.Ends.{end-found, end-fault}
+use Rattle.rule_form.proofs.Ends.{end-fault}
 use Rattle.rule_form.proofs.parsing.read.Goals as goal
 
 pub returns-in_default-2-clause-fault : goal.returns-in_default-2-clause-fault

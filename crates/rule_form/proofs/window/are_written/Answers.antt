@@ -1,4 +1,4 @@
-use Rattle.std.proofs.Common.{ℕ, ◌⊎◌, IsBitSet}
+use Rattle.std.proofs.Common.{◌⊎◌, IsBitSet}
 use Rattle.rule_body.specs.Templates.{named}
 use Rattle.rule_body.specs.Goals.{guests_of}
 use Rattle.rule_form.specs.Partial.{WrittenAt}

@@ -1,4 +1,4 @@
-use Rattle.std.proofs.Common.{◌≡◌, ℕ, ◌/◌, ◌^◌, ◌↔◌, IsTrue, IsBitSet, bit_and, nat_eq, arith}
+use Rattle.std.proofs.Common.{◌≡◌, ℕ, IsTrue, nat_eq, arith}
 use Rattle.std.proofs.lemmas.Nat.{bit_set_by_shift}
 use Rattle.rule_form.proofs.window.has_bit.Goals as goal
 

@@ -1,4 +1,4 @@
-use Rattle.std.proofs.Common.{◌≡◌, ◌∙◌, sym, take, arith}
+use Rattle.std.proofs.Common.{◌∙◌, sym, take, arith}
 use Rattle.rule_body.specs.Goals.{guests_of}
 use Rattle.rule_body.proofs.Guests.{length-guests}
 use Rattle.rule_form.proofs.Growing.{other-count, length-take}
