@@ -1,5 +1,5 @@
 -- What a file carries that is written for a program. This project's own.
-use Rattle.std.specs.Prelude.{◌≡◌, ℕ, ◌+◌, ◌*◌, ◌<◌, List, length, slice_index, Option}
+use Rattle.std.specs.Prelude.{◌≡◌, ℕ, ◌+◌, ◌*◌, ◌<◌, true, List, length, slice_index, Option}
 use Rattle.space.specs.declared.program.Kind.TheVariants.{Ia32}
 use Rattle.space.specs.declared.program.Program.{Program}
 use Rattle.ppc_isa.specs.declared.instr.Instr.{Instr}
@@ -12,7 +12,9 @@ use Rattle.machines.specs.Files.{Agrees}
 use Rattle.code_layout.specs.Decoded.{AreDecodedAs}
 use Rattle.code_layout.specs.Layout.{IsCodeFor}
 use Rattle.code_words.specs.Words.{HasWords, first_of}
+use Rattle.laid_code.specs.Instance.{Interface, without_registers}
 use Rattle.upkeep.specs.Loaded.{AreBytes}
+use Rattle.agreement.specs.Plans.{CarriesPlans}
 
 -- The code that is laid out for a program over an area: the block of each of its code words with the table of where
 -- they stand, and the table's word of the one at which the program begins.
@@ -38,6 +40,14 @@ pub record Carries (P : Program) (file : List ℕ) : Type 0 where
   pub laid : IsLaidFor P area code
   pub whole : file ≡ elf_file code.start (file_segments P code area)
   pub loaded : IsProgramOf Ia32 file (translated P code area)
+
+-- As the words' code is laid out, every block begins with no GPR in a register, and all locations are live.
+abbrev pub plain_interface : Interface
+plain_interface = without_registers (λ w x. true)
+
+-- A program's translation carries its plans so.
+abbrev pub CarryingIsPlain : Type 0
+CarryingIsPlain = (P : Program) (file : List ℕ) → AreBytes file → (x : Carries P file) → CarriesPlans plain_interface P (translated P x.code x.area)
 
 -- A file that carries a program's translation agrees with the program.
 abbrev pub CarryingAgrees : Type 0

@@ -34,7 +34,7 @@ use Rattle.laid_code.specs.Bytes.{HasBytes}
 use Rattle.laid_code.specs.Items.{ArePlaceable}
 use Rattle.symbolic_tiles.specs.Marks.{AreMarked}
 use Rattle.laid_code.specs.Plans.{plain, plan_items, last_map, AreRight}
-use Rattle.laid_code.specs.Instance.{setting_of, HasWords}
+use Rattle.laid_code.specs.Instance.{laid_setting, HasWords}
 use Rattle.laid_code.proofs.Decoding.{join_bytes}
 use Rattle.laid_code.proofs.Lengths.{bytes_length}
 use Rattle.laid_code.proofs.Laid.{LaidAt}
@@ -56,9 +56,9 @@ pub plain_laid : (ops : List Op) (rest : List FlowOp) → All IsLaid (plain ops 
 plain_laid [] rest laid = tt
 plain_laid (op ∷ ops) rest laid = (All-head IsLaid (Plain op) (plain ops ++ rest) laid, plain_laid ops rest (All-tail IsLaid (Plain op) (plain ops ++ rest) laid))
 
-module _ (reading : ℕ → Option Instr) (ops : List ℕ → Option Fetched) (P Q : Program) (first entry : ℕ) (words : List ℕ) (decoded : List (Option Instr)) (area : ℕ) (table : List ℕ) (reads : ReadsWords reading) (has : HasWords P first words) (are : AreDecodedAs words decoded) where
+module _ (live : ℕ → ℕ → Bool) (reading : ℕ → Option Instr) (ops : List ℕ → Option Fetched) (P Q : Program) (first entry : ℕ) (words : List ℕ) (decoded : List (Option Instr)) (area : ℕ) (table : List ℕ) (reads : ReadsWords reading) (has : HasWords P first words) (are : AreDecodedAs words decoded) where
   abbrev s : Setting
-  s = setting_of reading ops P Q first area table
+  s = laid_setting live reading ops P Q first area table
 
   abbrev p : Places
   p = places_in area first table

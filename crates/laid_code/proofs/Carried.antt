@@ -20,9 +20,9 @@ use Rattle.code_layout.specs.Places.{no_registers, no_moves, place_of, entry_of,
 use Rattle.code_layout.specs.Layout.{laid_bytes}
 use Rattle.code_layout.specs.declared.blocks.Laid.{Laid}
 use Rattle.laid_code.specs.Bytes.{HasBytes, RunsCode}
-use Rattle.laid_code.specs.Instance.{code_start, setting_of, HasWords, AreDecodedAs, HasCodeFor}
-use Rattle.laid_code.specs.Laws.{IsBlockOrOff, BlocksStand, HoldStands}
-use Rattle.laid_code.proofs.Decoding.{first_bytes_at, next_bytes_at, ends_low, jump_leads}
+use Rattle.laid_code.specs.Instance.{code_start, Interface, without_registers, setting_of, laid_setting, HasWords, AreDecodedAs, HasCodeFor}
+use Rattle.laid_code.specs.Laws.{IsBlockOrOff, BlocksStand, HoldStands, EntriesAreAddresses}
+use Rattle.laid_code.proofs.Decoding.{first_bytes_at, next_bytes_at, bytes_end_low, jump_leads}
 use Rattle.laid_code.proofs.Laid.{LaidAt, laid_at, Found, leading, behind, find_leader, find_single}
 use Rattle.laid_code.specs.Items.{ArePlaced}
 use Rattle.laid_code.proofs.Plans.{plans_stand}
@@ -46,18 +46,15 @@ entry_or_hold first table hold P a off on = by (a == address_of first (place_of 
     by true e = inner (place_of first a) (eqb-true a (address_of first (place_of first a)) e) (cases_lt (place_of first a) (length table))
     by false e = off
 
-module _ (reading : ℕ → Option Instr) (ops : List ℕ → Option Fetched) (P Q : Program) (first entry : ℕ) (words : List ℕ) (decoded : List (Option Instr)) (area : ℕ) (table : List ℕ) (reads_ops : ReadsOps ops) (carried : HasCodeFor Q first entry words decoded area table) where
-  abbrev s : Setting
-  s = setting_of reading ops P Q first area table
-
+module _ (Q : Program) (first entry : ℕ) (words : List ℕ) (decoded : List (Option Instr)) (area : ℕ) (table : List ℕ) (carried : HasCodeFor Q first entry words decoded area table) where
   abbrev targets : ℕ → ℕ
   targets = entry_of first table (code_start area)
 
   abbrev p : Places
   p = places_in area first table
 
-  runs : RunsCode s (code_of Q) ops
-  runs = record { reads = reads_ops; low = let l = carried.low in let a = carried.at in omega (arith, l, a); steps = λ h. refl }
+  low : (code_of Q).at + length (code_of Q).bytes < 2 ^ 32
+  low = let l = carried.low in let a = carried.at in omega (arith, l, a)
 
   -- the whole code, from its start on
   whole : HasBytes (code_of Q) (code_start area) (code_of Q).bytes
@@ -70,13 +67,7 @@ module _ (reading : ℕ → Option Instr) (ops : List ℕ → Option Fetched) (P
   holding = subst (HasBytes (code_of Q) (code_start area)) carried.code.laid whole
 
   hold_low : code_start area + 5 < 2 ^ 32
-  hold_low = ends_low s (code_of Q) ops (code_start area) (spelling (Jmp (2 ^ 32 - 5))) runs (first_bytes_at (code_of Q) (code_start area) (spelling (Jmp (2 ^ 32 - 5))) all_bytes holding)
-
-  pub hold_jumps : JumpsTo s (code_start area) (code_start area)
-  hold_jumps =
-      let low : code_start area + 5 < 2 ^ 32 = hold_low in
-      let rel : 2 ^ 32 - 5 ≡ (code_start area + (2 ^ 32 - (code_start area + 5))) % 2 ^ 32 = omega (arith, low) in
-      jump_leads s (code_of Q) ops (code_start area) (code_start area) runs (omega (arith, low)) (subst (λ (r : ℕ). HasBytes (code_of Q) (code_start area) (spelling (Jmp r))) rel (first_bytes_at (code_of Q) (code_start area) (spelling (Jmp (2 ^ 32 - 5))) all_bytes holding))
+  hold_low = bytes_end_low (code_of Q) (code_start area) (spelling (Jmp (2 ^ 32 - 5))) low (first_bytes_at (code_of Q) (code_start area) (spelling (Jmp (2 ^ 32 - 5))) all_bytes holding)
 
   -- all words stand behind it
   laid : LaidAt decoded p (code_of Q) (code_start area + 5) (code_order carried.code.leaders)
@@ -93,7 +84,7 @@ module _ (reading : ℕ → Option Instr) (ops : List ℕ → Option Fetched) (P
 
   -- every entry lies in the code
   laid_low : (here : ℕ) (word : Laid) (order : List Laid) → LaidAt decoded p (code_of Q) here (word ∷ order) → here < 2 ^ 32
-  laid_low here word order h = omega (arith, ends_low s (code_of Q) ops here _ runs h.0)
+  laid_low here word order h = omega (arith, bytes_end_low (code_of Q) here _ low h.0)
 
   pub entry_low : (k : ℕ) → k < length decoded → slice_index table k < 2 ^ 32
   entry_low k lt = by (found k lt)
@@ -110,7 +101,23 @@ module _ (reading : ℕ → Option Instr) (ops : List ℕ → Option Fetched) (P
       let count : length table ≡ length decoded = carried.count in
       entry_or_hold first table (code_start area) (λ t. t < 2 ^ 32) address (omega (arith, low)) (λ k lt e. entry_low k (omega (arith, lt, count)))
 
-  module _ (reads_words : ReadsWords reading) (has : HasWords P first words) (are : AreDecodedAs words decoded) where
+  module _ (interface : Interface) (reading : ℕ → Option Instr) (ops : List ℕ → Option Fetched) (P : Program) (reads_ops : ReadsOps ops) where
+    abbrev held_in : (ℕ → ℕ) → Setting
+    held_in to = setting_of interface to reading ops P Q first area table
+
+    runs : (to : ℕ → ℕ) → RunsCode (held_in to) (code_of Q) ops
+    runs to = record { reads = reads_ops; low = low; steps = λ h. refl }
+
+    pub hold_jumps : (to : ℕ → ℕ) → JumpsTo (held_in to) (code_start area) (code_start area)
+    hold_jumps to =
+        let low : code_start area + 5 < 2 ^ 32 = hold_low in
+        let rel : 2 ^ 32 - 5 ≡ (code_start area + (2 ^ 32 - (code_start area + 5))) % 2 ^ 32 = omega (arith, low) in
+        jump_leads (held_in to) (code_of Q) ops (code_start area) (code_start area) (runs to) (omega (arith, low)) (subst (λ (r : ℕ). HasBytes (code_of Q) (code_start area) (spelling (Jmp r))) rel (first_bytes_at (code_of Q) (code_start area) (spelling (Jmp (2 ^ 32 - 5))) all_bytes holding))
+
+  module _ (live : ℕ → ℕ → Bool) (reading : ℕ → Option Instr) (ops : List ℕ → Option Fetched) (P : Program) (reads_ops : ReadsOps ops) (reads_words : ReadsWords reading) (has : HasWords P first words) (are : AreDecodedAs words decoded) where
+    abbrev s : Setting
+    s = laid_setting live reading ops P Q first area table
+
     are_placed : ArePlaced s
     are_placed =
         let low : code_start area + 5 < 2 ^ 32 = hold_low in
@@ -127,7 +134,7 @@ module _ (reading : ℕ → Option Instr) (ops : List ℕ → Option Fetched) (P
         }
 
     abbrev Block : ℕ → ℕ → ℕ → Type 0
-    Block k here bound = BlockFrom reading ops P Q first entry words decoded area table reads_words has are k here bound
+    Block k here bound = BlockFrom live reading ops P Q first entry words decoded area table reads_words has are k here bound
 
     block_at : (k : ℕ) → k < length decoded → Block k (slice_index table k) (k + 64)
     block_at k lt = by (found k lt)
@@ -135,10 +142,10 @@ module _ (reading : ℕ → Option Instr) (ops : List ℕ → Option Fetched) (P
         by : Found decoded p (code_of Q) carried.code.leaders single_blocks (length carried.code.leaders) k (slice_index table k) → Block k (slice_index table k) (k + 64)
         by (leading more e set h) =
             let count : length carried.code.leaders ≡ length decoded = carried.code.count in
-            leader_block reading ops P Q first entry words decoded area table reads_words has are carried.code.leaders count carried.code.are_leaders single_blocks k more k (slice_index table k) lt set (e ∙ count) (omega arith) (λ i low high. absurd (omega (arith, low, high))) h
+            leader_block live reading ops P Q first entry words decoded area table reads_words has are carried.code.leaders count carried.code.are_leaders single_blocks k more k (slice_index table k) lt set (e ∙ count) (omega arith) (λ i low high. absurd (omega (arith, low, high))) h
         by (behind here h begins) =
             let one = find_single decoded p (code_of Q) single_places k (slice_index table k) here h begins in
-            word_block reading ops P Q first entry words decoded area table reads_words has are (alone k) one.0 (slice_index table k) (k + 64) lt (omega arith) one.1 (λ inner. absurd (false≢true (sym inner)))
+            word_block live reading ops P Q first entry words decoded area table reads_words has are (alone k) one.0 (slice_index table k) (k + 64) lt (omega arith) one.1 (λ inner. absurd (false≢true (sym inner)))
 
     begins : (k : ℕ) → k < length decoded → Begins s (address_of first k)
     begins k lt =
@@ -147,7 +154,7 @@ module _ (reading : ℕ → Option Instr) (ops : List ℕ → Option Fetched) (P
         let here : slice_index table k ≡ targets (address_of first k) = sym (entry_at first table (code_start area) k (omega (arith, lt, count))) in
         record {
           steps = b.steps;
-          stands = subst (λ (a : ℕ). BlockAt s no_registers (address_of first k) a b.steps) here (plans_stand s no_moves (code_of Q) ops no_registers (address_of first k) (slice_index table k) b.steps runs are_placed (λ next. (omega arith, b.map_stays)) b.right b.bytes);
+          stands = subst (λ (a : ℕ). BlockAt s no_registers (address_of first k) a b.steps) here (plans_stand s no_moves (code_of Q) ops no_registers (address_of first k) (slice_index table k) b.steps (runs (without_registers live) reading ops P reads_ops targets) are_placed (λ next. (omega arith, b.map_stays)) b.right b.bytes);
           in_block = let c = b.count in omega (arith, c);
           few = b.few;
           few_first = let f = b.begins_few in omega (arith, f);
@@ -174,7 +181,10 @@ module _ (reading : ℕ → Option Instr) (ops : List ℕ → Option Fetched) (P
         by false off = inr (off_code w off, to_hold w off)
 
 pub blocks_stand : BlocksStand
-blocks_stand reading ops P Q first entry words decoded area table reads_words reads_ops has are carried w = blocks_at reading ops P Q first entry words decoded area table reads_ops carried reads_words has are w
+blocks_stand live reading ops P Q first entry words decoded area table reads_words reads_ops has are carried w = blocks_at Q first entry words decoded area table carried live reading ops P reads_ops reads_words has are w
 
 pub hold_stands : HoldStands
-hold_stands reading ops P Q first entry words decoded area table reads_ops carried = hold_jumps reading ops P Q first entry words decoded area table reads_ops carried
+hold_stands interface targets reading ops P Q first entry words decoded area table reads_ops carried = hold_jumps Q first entry words decoded area table carried interface reading ops P reads_ops targets
+
+pub entries_are_addresses : EntriesAreAddresses
+entries_are_addresses Q first entry words decoded area table carried k lt = entry_low Q first entry words decoded area table carried k (let count = carried.count in omega (arith, lt, count))

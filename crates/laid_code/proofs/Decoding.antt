@@ -67,10 +67,13 @@ within code here bytes h some =
     let to : ltb here (code.at + length code.bytes) ≡ true = grind (arith, nat_tests, h.begins, long, some) in
     rw (from, to) refl
 
-pub ends_low : (s : Setting) (code : Code) (reading : List ℕ → Option Fetched) (here : ℕ) (bytes : List ℕ) → RunsCode s code reading → HasBytes code here bytes → here + length bytes < 2 ^ 32
-ends_low s code reading here bytes runs h =
+pub bytes_end_low : (code : Code) (here : ℕ) (bytes : List ℕ) → code.at + length code.bytes < 2 ^ 32 → HasBytes code here bytes → here + length bytes < 2 ^ 32
+bytes_end_low code here bytes low h =
     let long : length code.bytes ≡ length h.before + (length bytes + length h.behind) = ap length h.cut ∙ length-append h.before (bytes ++ h.behind) ∙ ap (λ n. length h.before + n) (length-append bytes h.behind) in
-    omega (arith, h.begins, long, runs.low)
+    omega (arith, h.begins, long, low)
+
+pub ends_low : (s : Setting) (code : Code) (reading : List ℕ → Option Fetched) (here : ℕ) (bytes : List ℕ) → RunsCode s code reading → HasBytes code here bytes → here + length bytes < 2 ^ 32
+ends_low s code reading here bytes runs h = bytes_end_low code here bytes runs.low h
 
 pub spelling_stands : (s : Setting) (code : Code) (reading : List ℕ → Option Fetched) (here : ℕ) (op : Op) → RunsCode s code reading → IsInProfile op → HasBytes code here (spelling op) → StandsAt s.host s.host_step here op (here + length (spelling op))
 spelling_stands s code reading here op runs ok has h at =

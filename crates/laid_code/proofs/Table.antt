@@ -6,7 +6,7 @@ use Rattle.machines.specs.Memory.{load}
 use Rattle.code_layout.specs.Blocks.{address_of}
 use Rattle.laid_code.specs.Instance.{code_start}
 use Rattle.laid_code.specs.Laws.{TablesStand}
-use Rattle.laid_code.proofs.Carried.{entry_at, entry_or_hold, entry_low}
+use Rattle.laid_code.proofs.Carried.{entry_at, entry_or_hold}
 
 -- the bytes of a word in the table
 byte_at : (xs : List ℕ) (k j : ℕ) → k < length xs → j < 4 → get_or (flat_map (little_bytes 4) xs) (4 * k + j) 0 ≡ slice_index xs k / 256 ^ j % 256
@@ -36,8 +36,7 @@ word_at image table xs low bytes k lk w =
     omega (arith, b0, b1, b2, b3, w)
 
 pub tables_stand : TablesStand
-tables_stand reading ops P Q first entry words decoded area table reads has are carried t =
-    let count : length table ≡ length words = carried.count ∙ are.count in
+tables_stand interface targets reading ops P Q first words area table has count low t =
     let code_low = has.low in
     record {
       aligned = has.aligned;
@@ -48,7 +47,7 @@ tables_stand reading ops P Q first entry words decoded area table reads has are 
       held = t.held;
       unwritable = t.unwritable;
       words = λ k lk.
-          word_at _ (area + 0x1000) table t.low t.bytes k lk (entry_low reading ops P Q first entry words decoded area table reads carried k (let same = are.count in omega (arith, lk, count, same)))
+          word_at _ (area + 0x1000) table t.low t.bytes k lk (low k lk)
           ∙ sym (entry_at first table (code_start area) k lk);
       off = λ w lw aw out. entry_or_hold first table (code_start area) (λ d. d ≡ code_start area) w refl (λ k lk e. absurd (by_side k lk w e out));
     }

@@ -1,8 +1,9 @@
 -- The setting of a program and of the program that was written for it. This project's own.
-use Rattle.std.specs.Prelude.{◌≡◌, ℕ, ◌+◌, ◌*◌, ◌^◌, ◌<◌, ◌≤◌, true, false, List, length, get_or, Option}
+use Rattle.std.specs.Prelude.{◌≡◌, ℕ, ◌+◌, ◌*◌, ◌^◌, ◌<◌, ◌≤◌, Bool, true, false, List, length, get_or, Option}
 use Rattle.std.specs.List.{flat_map}
 use Rattle.byteorder.specs.Endian.{little_bytes}
 use Rattle.ppc_isa.specs.declared.instr.Instr.{Instr}
+use Rattle.ppc_isa.specs.declared.map.Map.{Map}
 use Rattle.space.specs.declared.program.Program.{Program}
 use Rattle.machines.specs.Memory.{rights_of, code_of, first_bytes}
 use Rattle.machines.specs.Readings.{Fetched}
@@ -22,10 +23,16 @@ table_start area = area + 0x1000
 abbrev pub code_start : ℕ → ℕ
 code_start area = area + 0x81000
 
--- The guest runs P. The host runs Q, where no byte of its code is read as data. Every block begins with no GPR in a
--- register and all locations live; edges and the indirect sequence lead where the table says.
-abbrev pub setting_of : (ℕ → Option Instr) → (List ℕ → Option Fetched) → Program → Program → ℕ → ℕ → List ℕ → Setting
-setting_of words ops P Q first area table = record {
+-- What blocks take for granted where they begin: for each guest address the register map under which the block there
+-- begins, and which locations are live before its word.
+pub record Interface : Type 0 where
+  pub entry_map : ℕ → Map
+  pub live : ℕ → ℕ → Bool
+
+-- The guest runs P. The host runs Q, where no byte of its code is read as data. Edges lead where `targets` says, and the
+-- indirect sequence where the table says.
+abbrev pub setting_of : Interface → (ℕ → ℕ) → (ℕ → Option Instr) → (List ℕ → Option Fetched) → Program → Program → ℕ → ℕ → List ℕ → Setting
+setting_of interface targets words ops P Q first area table = record {
   guest = rights_of P;
   host = without (code_of Q) (rights_of Q);
   area = area;
@@ -33,14 +40,22 @@ setting_of words ops P Q first area table = record {
   guest_step = guest_machine words P;
   host_step = narrow_machine ops Q;
   hold = code_start area;
-  entry_map = λ w. no_registers;
-  target = entry_of first table (code_start area);
+  entry_map = interface.entry_map;
+  target = targets;
   door = entry_of first table (code_start area);
   first = first;
   count = length table;
   table = table_start area;
-  live = λ w x. true;
+  live = interface.live;
 }
+
+-- no block begins with a GPR in a register
+abbrev pub without_registers : (ℕ → ℕ → Bool) → Interface
+without_registers live = record { entry_map = λ w. no_registers; live = live }
+
+-- so the words' code is laid out, whatever is live: edges, too, lead where the table says
+abbrev pub laid_setting : (ℕ → ℕ → Bool) → (ℕ → Option Instr) → (List ℕ → Option Fetched) → Program → Program → ℕ → ℕ → List ℕ → Setting
+laid_setting live words ops P Q first area table = setting_of (without_registers live) (entry_of first table (code_start area)) words ops P Q first area table
 
 -- the code of Q is that of these words, by this table, and lies below 2^32
 pub record HasCodeFor (Q : Program) (first entry : ℕ) (words : List ℕ) (decoded : List (Option Instr)) (area : ℕ) (table : List ℕ) : Type 0 where

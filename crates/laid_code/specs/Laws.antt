@@ -1,5 +1,5 @@
 -- What holds of code that stands at addresses.
-use Rattle.std.specs.Prelude.{◌≡◌, ℕ, ◌+◌, ◌-◌, ◌%◌, ◌^◌, ◌<◌, ◌⊎◌, List, length, Option, All, Contains}
+use Rattle.std.specs.Prelude.{◌≡◌, ℕ, ◌+◌, ◌-◌, ◌%◌, ◌^◌, ◌<◌, ◌⊎◌, Bool, List, length, slice_index, Option, All, Contains}
 use Rattle.ia_codec.specs.Spelling.{spelling, IsInProfile}
 use Rattle.ia_codec.specs.declared.op.Op.{Op}
 use Rattle.ia_codec.specs.declared.op.Op.TheVariants.{Jmp}
@@ -16,7 +16,7 @@ use Rattle.code_layout.specs.Places.{Moves}
 use Rattle.code_layout.specs.Code.{IsLaid, items_bytes}
 use Rattle.symbolic_tiles.specs.Marks.{AreMarked}
 use Rattle.laid_code.specs.Bytes.{HasBytes, RunsCode}
-use Rattle.laid_code.specs.Instance.{code_start, setting_of, HasWords, AreDecodedAs, HasCodeFor, HasTableOf}
+use Rattle.laid_code.specs.Instance.{code_start, Interface, setting_of, laid_setting, HasWords, AreDecodedAs, HasCodeFor, HasTableOf}
 use Rattle.laid_code.specs.Items.{labels_of, edges_of, leaps_of, places_of, AreSwitches, ArePlaced}
 use Rattle.laid_code.specs.Plans.{plan_items, last_map, AreRight}
 
@@ -53,20 +53,31 @@ PlansStand =
 abbrev pub IsBlockOrOff : Setting → ℕ → Type 0
 IsBlockOrOff s w = Begins s w ⊎ (IsOffCode s w × (s.target w ≡ s.hold))
 
--- The code of the written program carries the block of each code word of P.
+-- The code of the written program carries the block of each code word of P, whatever is live.
 abbrev pub BlocksStand : Type 0
 BlocksStand =
-    (reading : ℕ → Option Instr) (ops : List ℕ → Option Fetched) (P Q : Program) (first entry : ℕ) (words : List ℕ) (decoded : List (Option Instr)) (area : ℕ) (table : List ℕ) →
-    ReadsWords reading → ReadsOps ops → HasWords P first words → AreDecodedAs words decoded → HasCodeFor Q first entry words decoded area table → (w : ℕ) → IsBlockOrOff (setting_of reading ops P Q first area table) w
+    (live : ℕ → ℕ → Bool) (reading : ℕ → Option Instr) (ops : List ℕ → Option Fetched) (P Q : Program) (first entry : ℕ) (words : List ℕ) (decoded : List (Option Instr)) (area : ℕ) (table : List ℕ) →
+    ReadsWords reading → ReadsOps ops → HasWords P first words → AreDecodedAs words decoded → HasCodeFor Q first entry words decoded area table → (w : ℕ) → IsBlockOrOff (laid_setting live reading ops P Q first area table) w
 
--- `hold` is a jump to itself.
+-- `hold` is a jump to itself, under every interface.
 abbrev pub HoldStands : Type 0
 HoldStands =
-    (reading : ℕ → Option Instr) (ops : List ℕ → Option Fetched) (P Q : Program) (first entry : ℕ) (words : List ℕ) (decoded : List (Option Instr)) (area : ℕ) (table : List ℕ) →
-    ReadsOps ops → HasCodeFor Q first entry words decoded area table → JumpsTo (setting_of reading ops P Q first area table) (code_start area) (code_start area)
+    (interface : Interface) (targets : ℕ → ℕ) (reading : ℕ → Option Instr) (ops : List ℕ → Option Fetched) (P Q : Program) (first entry : ℕ) (words : List ℕ) (decoded : List (Option Instr)) (area : ℕ) (table : List ℕ) →
+    ReadsOps ops → HasCodeFor Q first entry words decoded area table → JumpsTo (setting_of interface targets reading ops P Q first area table) (code_start area) (code_start area)
 
--- The table leads to the block of each code word, and elsewhere nothing but to `hold`.
+-- each word of a table is a host address
+abbrev pub AreAddresses : List ℕ → Type 0
+AreAddresses table = (k : ℕ) → k < length table → slice_index table k < 2 ^ 32
+
+-- The table of the words' code is made of host addresses.
+abbrev pub EntriesAreAddresses : Type 0
+EntriesAreAddresses =
+    (Q : Program) (first entry : ℕ) (words : List ℕ) (decoded : List (Option Instr)) (area : ℕ) (table : List ℕ) →
+    HasCodeFor Q first entry words decoded area table → AreAddresses table
+
+-- A table of host addresses that stands in memory leads where its words say, and elsewhere nothing but to `hold`: under
+-- every interface, wherever edges lead.
 abbrev pub TablesStand : Type 0
 TablesStand =
-    (reading : ℕ → Option Instr) (ops : List ℕ → Option Fetched) (P Q : Program) (first entry : ℕ) (words : List ℕ) (decoded : List (Option Instr)) (area : ℕ) (table : List ℕ) →
-    ReadsOps ops → HasWords P first words → AreDecodedAs words decoded → HasCodeFor Q first entry words decoded area table → HasTableOf (setting_of reading ops P Q first area table) table → HasTable (setting_of reading ops P Q first area table)
+    (interface : Interface) (targets : ℕ → ℕ) (reading : ℕ → Option Instr) (ops : List ℕ → Option Fetched) (P Q : Program) (first : ℕ) (words : List ℕ) (area : ℕ) (table : List ℕ) →
+    HasWords P first words → length table ≡ length words → AreAddresses table → HasTableOf (setting_of interface targets reading ops P Q first area table) table → HasTable (setting_of interface targets reading ops P Q first area table)

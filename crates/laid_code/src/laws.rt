@@ -1,6 +1,6 @@
 //! What the bytes of the code carry. Each law is the contract of a function that does nothing.
 
-ghost use Rattle.laid_code.specs.Laws.{SpellingsStand, JumpsLead, ItemsStand, PlansStand, BlocksStand, HoldStands, TablesStand};
+ghost use Rattle.laid_code.specs.Laws.{SpellingsStand, JumpsLead, ItemsStand, PlansStand, BlocksStand, HoldStands, EntriesAreAddresses, TablesStand};
 
 /// Where the spelling of an op stands in the code, the op stands.
 pub fn spellings_stand()
@@ -25,7 +25,7 @@ pub fn plans_stand()
 {}
 
 /// At each code word of a program the block of its plan stands in the written code, and edges to other
-/// addresses lead to `hold`.
+/// addresses lead to `hold`. Its block takes no location to be dead.
 pub fn blocks_stand()
     ensures { BlocksStand }
 {}
@@ -35,7 +35,12 @@ pub fn hold_stands()
     ensures { HoldStands }
 {}
 
-/// The table of a written file leads to the block of each code word.
+/// The table of a program's laid code is made of host addresses.
+pub fn entries_are_addresses()
+    ensures { EntriesAreAddresses }
+{}
+
+/// A table that stands in a written file's memory leads where its words say, and elsewhere to `hold`.
 pub fn tables_stand()
     ensures { TablesStand }
 {}

@@ -4,5 +4,6 @@
 mod laws;
 
 pub use laws::{
-    blocks_stand, hold_stands, items_stand, jumps_lead, plans_stand, spellings_stand, tables_stand,
+    blocks_stand, entries_are_addresses, hold_stands, items_stand, jumps_lead, plans_stand,
+    spellings_stand, tables_stand,
 };

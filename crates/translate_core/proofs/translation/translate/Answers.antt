@@ -21,4 +21,4 @@ returns-clause-carries c =
     c.host_area-area.ensures c.in_ok-bytes.ensures.bytes c.in_ok-bytes.ensures.loads c.file_bytes.ensures.value
 
 pub returns-clause-agrees : goal.returns-clause-agrees
-returns-clause-agrees c = c.carrying_agrees.ensures c.args.program.now c.file_bytes.result c.file_bytes.ensures.bytes (returns-clause-carries c)
+returns-clause-agrees c = c.carrying_agrees.ensures.agrees c.args.program.now c.file_bytes.result c.file_bytes.ensures.bytes (returns-clause-carries c)
