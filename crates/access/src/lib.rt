@@ -9,6 +9,3 @@ mod stores;
 pub use loads::{load_big, load_little};
 pub use memory::{copy, first_memory, holds, own_memory};
 pub use stores::{put, store_big, store_little};
-
-#[cfg(test)]
-mod tests;

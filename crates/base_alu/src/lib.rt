@@ -11,8 +11,6 @@ mod logic;
 mod recording;
 mod shifts;
 mod specials;
-#[cfg(test)]
-mod tests;
 mod tile;
 
 pub use laws::{

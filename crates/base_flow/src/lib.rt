@@ -7,8 +7,6 @@ mod items;
 mod laws;
 mod system_call;
 mod table;
-#[cfg(test)]
-mod tests;
 mod traps;
 
 ghost use Rattle.std.specs.Prelude.{◌≡◌, ◌≤◌, IfOk, Some, length};

@@ -6,8 +6,6 @@ mod laws;
 mod loading;
 mod multiple;
 mod storing;
-#[cfg(test)]
-mod tests;
 mod tile;
 
 pub use laws::{

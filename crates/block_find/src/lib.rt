@@ -21,6 +21,3 @@ pub use laws::{
 };
 pub use program::blocks;
 pub use spans::Run;
-
-#[cfg(test)]
-mod tests;

@@ -24,6 +24,3 @@ pub fn table(alloc: Global, addresses: &[u32]) -> Result<Vec<u8>, NoMemory>
     LittleEndian::write_u32_into(addresses, &mut bytes);
     Ok(bytes)
 }
-
-#[cfg(test)]
-mod tests;

@@ -17,6 +17,3 @@ mod words;
 pub use gates::Gates;
 pub use laws::{inputs_extend, one_formula, one_of_each, untied};
 pub use literals::Lit;
-
-#[cfg(test)]
-mod tests;

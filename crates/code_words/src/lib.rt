@@ -4,6 +4,3 @@
 mod code;
 
 pub use code::{code_words, entry_place, first};
-
-#[cfg(test)]
-mod tests;

@@ -9,6 +9,3 @@ mod writer;
 
 pub use laws::{offsets_are_least, stack_has_no_bytes, written_files_load};
 pub use translation::file;
-
-#[cfg(test)]
-mod tests;

@@ -15,6 +15,3 @@ pub use laws::{
 };
 pub use loading::load;
 pub use refusal::{ElfRefusal, LoadFault};
-
-#[cfg(test)]
-mod tests;

@@ -17,6 +17,3 @@ mod sums;
 pub use effects::effect;
 pub use given::{HostEffect, HostIn};
 pub use laws::undefined_alone_is_chosen;
-
-#[cfg(test)]
-mod tests;

@@ -11,8 +11,6 @@ mod op;
 mod pricing;
 mod profile;
 mod reading;
-#[cfg(test)]
-mod tests;
 
 pub use bytes::Bytes12;
 pub use decoding::{decode, one_reading, one_spelling};

@@ -13,6 +13,3 @@ mod state;
 
 pub use choices::Choice;
 pub use machine::Machine;
-
-#[cfg(test)]
-mod tests;

@@ -12,6 +12,3 @@ mod reading;
 pub use laws::{live_by_behind, live_by_next};
 pub use live_sets::LiveSets;
 pub use program::live;
-
-#[cfg(test)]
-mod tests;

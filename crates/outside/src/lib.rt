@@ -14,8 +14,6 @@ mod memory_streams;
 mod numerals;
 mod replacing;
 mod streams;
-#[cfg(test)]
-mod tests;
 
 pub use files::{FileFault, Files};
 pub use host_files::HostFiles;

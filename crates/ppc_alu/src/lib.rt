@@ -5,6 +5,3 @@ mod rows;
 
 pub use ppc_parts::{Access, Effect, GuestIn};
 pub use rows::effect;
-
-#[cfg(test)]
-mod tests;

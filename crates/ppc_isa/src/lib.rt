@@ -24,6 +24,3 @@ pub use locs::{
 };
 pub use map::Map;
 pub use names::mnemonic;
-
-#[cfg(test)]
-mod tests;

@@ -13,6 +13,3 @@ mod state;
 
 pub use machine::Machine;
 pub use state::State;
-
-#[cfg(test)]
-mod tests;

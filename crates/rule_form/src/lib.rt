@@ -11,8 +11,6 @@ mod parsing;
 mod printing;
 mod progress;
 mod rows;
-#[cfg(test)]
-mod tests;
 mod window;
 mod writing;
 

@@ -8,6 +8,3 @@ pub use law::{
     Machine, Simulation, TwoSpaces, agreement, agrees_in_larger, keeps_calls, same_run,
     standing_still_fails, stays_over,
 };
-
-#[cfg(test)]
-mod tests;

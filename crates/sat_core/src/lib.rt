@@ -12,6 +12,3 @@ mod verdict;
 
 pub use solving::solve;
 pub use verdict::{Values, Verdict};
-
-#[cfg(test)]
-mod tests;

@@ -10,6 +10,3 @@ pub use call::{Answer, Call, CallKind, End, Event};
 pub use laws::{code_stays, one_byte_is_changed, rights_stay};
 pub use memory::Space;
 pub use program::{Bytes, Kind, Program, Segment, Segments};
-
-#[cfg(test)]
-mod tests;

@@ -14,6 +14,3 @@ mod words;
 pub use cause::{Cause, Status};
 pub use due::one_due;
 pub use entry::top;
-
-#[cfg(test)]
-mod tests;
