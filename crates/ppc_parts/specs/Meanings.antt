@@ -1,5 +1,6 @@
 -- What the values of an algebra mean that a row reads and gives, and which of them the algebra owns.
-use Rattle.std.specs.Prelude.{ℕ, ◌≤◌, Bool}
+use Rattle.std.specs.Prelude.{◌≡◌, ℕ, ◌≤◌, Bool}
+use Rattle.word_kit.specs.declared.algebra.Alg.{Ghosts}
 use Rattle.ppc_isa.specs.Effect.{GuestValues, Effect as Given, Access as Kind, NoAccess, LoadAccess, StoreAccess}
 use Rattle.ppc_parts.specs.declared.given.Access.{Access}
 use Rattle.ppc_parts.specs.declared.given.Access.TheVariants.{None, Load, Store}
@@ -39,3 +40,9 @@ module _ {A W B : Type 0} where
 
   abbrev pub effect_of : (W → ℕ) → (B → Bool) → Effect A W B → Given
   effect_of word truth e = record { d = word e.d; a = word e.a; cr = word e.cr; xer = word e.xer; lr = word e.lr; ctr = word e.ctr; address = word e.address; stored = word e.stored; width = e.width; kind = kind_of e.kind; taken = truth e.taken }
+
+module _ {A S W B : Type 0} (alg : Ghosts S W B) where
+  -- the algebra owns the values of an effect, which mean another under every assignment that it admits
+  pub record GivesEffect (s : S) (e : Effect A W B) (effect : (ℕ → Bool) → Given) : Type 0 where
+    pub owned : EffectOwned alg.word_reach alg.flag_reach (alg.extent s) e
+    pub means : (v : ℕ → Bool) → alg.admits s v → effect_of (λ w. alg.word w v) (λ b. alg.truth b v) e ≡ effect v

@@ -1,6 +1,7 @@
 //! Operands that several rows make.
 
 ghost use Rattle.std.specs.Prelude.{◌≡◌, ◌≤◌, ℕ, Bool, IfOk, OnOk, OnErr, IsTrue};
+ghost use Rattle.word_kit.specs.Algebra.{IsLater, GivesWord};
 ghost use Rattle.ppc_isa.specs.AccessRows.{byte_extended, half_extended};
 ghost use Rattle.ppc_isa.specs.SumRows.{base};
 ghost use Rattle.ppc_parts.specs.Meanings.{IsOwned, values_of};
@@ -24,14 +25,10 @@ pub fn base<A: Alg>(alg: &mut A, a: u8, from: &GuestIn<A>) -> A::W
 #[tactic(auto, using(crate::proofs::SignCopies::extended_byte))]
 pub fn extended_byte<A: Alg>(alg: &mut A, x: A::W) -> Result<A::W, NoMemory>
     requires x_owned { A.word_reach x ≤ A.extent alg.old }
-    ensures grows { A.extent alg.old ≤ A.extent alg.new }
-    ensures earlier { (v : ℕ → Bool) → A.admits alg.new v → A.admits alg.old v }
-    ensures opaque { A.opaque alg.new ≡ A.opaque alg.old }
-    ensures made { IfOk result (λ r. r ≡ (extended_term A.ops x 24 (A.held alg.old)).word) }
-    ensures held { OnOk result (A.held alg.new ≡ (extended_term A.ops x 24 (A.held alg.old)).held) }
+    ensures later { IsLater A.Alg alg.old alg.new }
+    ensures makes { IfOk result (λ r. record { word = r; held = A.held alg.new } ≡ extended_term A.ops x 24 (A.held alg.old)) }
     ensures fails { OnErr result (IsTrue A.takes_memory) }
-    ensures owned { IfOk result (λ r. A.word_reach r ≤ A.extent alg.new) }
-    ensures means { IfOk result (λ r. (v : ℕ → Bool) → A.admits alg.new v → A.word r v ≡ byte_extended (A.word x v)) }
+    ensures gives { IfOk result (λ r. GivesWord A.Alg alg.new r (λ v. byte_extended (A.word x v))) }
 {
     let count = alg.lit(24);
     let up = alg.shift_left(x, count)?;
@@ -43,14 +40,10 @@ pub fn extended_byte<A: Alg>(alg: &mut A, x: A::W) -> Result<A::W, NoMemory>
 #[tactic(auto, using(crate::proofs::SignCopies::extended_half))]
 pub fn extended_half<A: Alg>(alg: &mut A, x: A::W) -> Result<A::W, NoMemory>
     requires x_owned { A.word_reach x ≤ A.extent alg.old }
-    ensures grows { A.extent alg.old ≤ A.extent alg.new }
-    ensures earlier { (v : ℕ → Bool) → A.admits alg.new v → A.admits alg.old v }
-    ensures opaque { A.opaque alg.new ≡ A.opaque alg.old }
-    ensures made { IfOk result (λ r. r ≡ (extended_term A.ops x 16 (A.held alg.old)).word) }
-    ensures held { OnOk result (A.held alg.new ≡ (extended_term A.ops x 16 (A.held alg.old)).held) }
+    ensures later { IsLater A.Alg alg.old alg.new }
+    ensures makes { IfOk result (λ r. record { word = r; held = A.held alg.new } ≡ extended_term A.ops x 16 (A.held alg.old)) }
     ensures fails { OnErr result (IsTrue A.takes_memory) }
-    ensures owned { IfOk result (λ r. A.word_reach r ≤ A.extent alg.new) }
-    ensures means { IfOk result (λ r. (v : ℕ → Bool) → A.admits alg.new v → A.word r v ≡ half_extended (A.word x v)) }
+    ensures gives { IfOk result (λ r. GivesWord A.Alg alg.new r (λ v. half_extended (A.word x v))) }
 {
     let count = alg.lit(16);
     let up = alg.shift_left(x, count)?;

@@ -3,7 +3,8 @@
 ghost use Rattle.std.specs.Prelude.{◌≡◌, ◌<◌, ◌≤◌, ℕ, Bool, IfOk, OnOk, OnErr, IsTrue};
 ghost use Rattle.ppc_isa.specs.Effect.{unchanged};
 ghost use Rattle.ppc_isa.specs.Recording.{with_field, compared, recorded, gives_d, gives_a};
-ghost use Rattle.ppc_parts.specs.Meanings.{IsOwned, values_of, EffectOwned, effect_of};
+ghost use Rattle.word_kit.specs.Algebra.{IsLater, GivesWord};
+ghost use Rattle.ppc_parts.specs.Meanings.{IsOwned, values_of, EffectOwned, effect_of, GivesEffect};
 ghost use Rattle.ppc_parts.specs.RecordingTerms.{field_term, compared_term, recorded_term, unchanged_term, gives_d_term, gives_a_term};
 
 use crate::given::{Access, Effect, GuestIn};
@@ -51,14 +52,10 @@ pub fn compare<A: Alg>(
     requires x_owned { A.word_reach x ≤ A.extent alg.old }
     requires y_owned { A.word_reach y ≤ A.extent alg.old }
     requires owned { IsOwned A.word_reach (A.extent alg.old) from.now }
-    ensures grows { A.extent alg.old ≤ A.extent alg.new }
-    ensures earlier { (v : ℕ → Bool) → A.admits alg.new v → A.admits alg.old v }
-    ensures opaque { A.opaque alg.new ≡ A.opaque alg.old }
-    ensures made { IfOk result (λ r. r ≡ (compared_term A.ops signed field x y (A.held alg.old) from.now).word) }
-    ensures held { OnOk result (A.held alg.new ≡ (compared_term A.ops signed field x y (A.held alg.old) from.now).held) }
+    ensures later { IsLater A.Alg alg.old alg.new }
+    ensures makes { IfOk result (λ r. record { word = r; held = A.held alg.new } ≡ compared_term A.ops signed field x y (A.held alg.old) from.now) }
     ensures fails { OnErr result (IsTrue A.takes_memory) }
-    ensures owned { IfOk result (λ r. A.word_reach r ≤ A.extent alg.new) }
-    ensures means { IfOk result (λ r. (v : ℕ → Bool) → A.admits alg.new v → A.word r v ≡ compared signed field (A.word x v) (A.word y v) (values_of (λ w. A.word w v) from.now)) }
+    ensures gives { IfOk result (λ r. GivesWord A.Alg alg.new r (λ v. compared signed field (A.word x v) (A.word y v) (values_of (λ w. A.word w v) from.now))) }
 {
     let lt = alg.less(x, y, signed)?;
     let gt = alg.less(y, x, signed)?;
@@ -76,14 +73,10 @@ pub(crate) fn record_if<A: Alg>(
 ) -> Result<A::W, NoMemory>
     requires value_owned { A.word_reach value ≤ A.extent alg.old }
     requires owned { IsOwned A.word_reach (A.extent alg.old) from.now }
-    ensures grows { A.extent alg.old ≤ A.extent alg.new }
-    ensures earlier { (v : ℕ → Bool) → A.admits alg.new v → A.admits alg.old v }
-    ensures opaque { A.opaque alg.new ≡ A.opaque alg.old }
-    ensures made { IfOk result (λ r. r ≡ (recorded_term A.ops records value (A.held alg.old) from.now).word) }
-    ensures held { OnOk result (A.held alg.new ≡ (recorded_term A.ops records value (A.held alg.old) from.now).held) }
+    ensures later { IsLater A.Alg alg.old alg.new }
+    ensures makes { IfOk result (λ r. record { word = r; held = A.held alg.new } ≡ recorded_term A.ops records value (A.held alg.old) from.now) }
     ensures fails { OnErr result (IsTrue A.takes_memory) }
-    ensures owned { IfOk result (λ r. A.word_reach r ≤ A.extent alg.new) }
-    ensures means { IfOk result (λ r. (v : ℕ → Bool) → A.admits alg.new v → A.word r v ≡ recorded records (A.word value v) (values_of (λ w. A.word w v) from.now)) }
+    ensures gives { IfOk result (λ r. GivesWord A.Alg alg.new r (λ v. recorded records (A.word value v) (values_of (λ w. A.word w v) from.now))) }
 {
     if records {
         let zero = alg.lit(0);
@@ -127,14 +120,10 @@ pub fn gives_d<A: Alg>(
 ) -> Result<Effect<A>, NoMemory>
     requires value_owned { A.word_reach value ≤ A.extent alg.old }
     requires owned { IsOwned A.word_reach (A.extent alg.old) from.now }
-    ensures grows { A.extent alg.old ≤ A.extent alg.new }
-    ensures earlier { (v : ℕ → Bool) → A.admits alg.new v → A.admits alg.old v }
-    ensures opaque { A.opaque alg.new ≡ A.opaque alg.old }
-    ensures made { IfOk result (λ r. r ≡ (gives_d_term A.ops records value (A.held alg.old) from.now).effect) }
-    ensures held { OnOk result (A.held alg.new ≡ (gives_d_term A.ops records value (A.held alg.old) from.now).held) }
+    ensures later { IsLater A.Alg alg.old alg.new }
+    ensures makes { IfOk result (λ r. record { effect = r; held = A.held alg.new } ≡ gives_d_term A.ops records value (A.held alg.old) from.now) }
     ensures fails { OnErr result (IsTrue A.takes_memory) }
-    ensures owned { IfOk result (λ r. EffectOwned A.word_reach A.flag_reach (A.extent alg.new) r) }
-    ensures means { IfOk result (λ r. (v : ℕ → Bool) → A.admits alg.new v → effect_of (λ w. A.word w v) (λ b. A.truth b v) r ≡ gives_d records (A.word value v) (values_of (λ w. A.word w v) from.now)) }
+    ensures gives { IfOk result (λ r. GivesEffect A.Alg alg.new r (λ v. gives_d records (A.word value v) (values_of (λ w. A.word w v) from.now))) }
 {
     let cr = record_if(alg, records, value, from)?;
     Ok(Effect {
@@ -153,14 +142,10 @@ pub fn gives_a<A: Alg>(
 ) -> Result<Effect<A>, NoMemory>
     requires value_owned { A.word_reach value ≤ A.extent alg.old }
     requires owned { IsOwned A.word_reach (A.extent alg.old) from.now }
-    ensures grows { A.extent alg.old ≤ A.extent alg.new }
-    ensures earlier { (v : ℕ → Bool) → A.admits alg.new v → A.admits alg.old v }
-    ensures opaque { A.opaque alg.new ≡ A.opaque alg.old }
-    ensures made { IfOk result (λ r. r ≡ (gives_a_term A.ops records value (A.held alg.old) from.now).effect) }
-    ensures held { OnOk result (A.held alg.new ≡ (gives_a_term A.ops records value (A.held alg.old) from.now).held) }
+    ensures later { IsLater A.Alg alg.old alg.new }
+    ensures makes { IfOk result (λ r. record { effect = r; held = A.held alg.new } ≡ gives_a_term A.ops records value (A.held alg.old) from.now) }
     ensures fails { OnErr result (IsTrue A.takes_memory) }
-    ensures owned { IfOk result (λ r. EffectOwned A.word_reach A.flag_reach (A.extent alg.new) r) }
-    ensures means { IfOk result (λ r. (v : ℕ → Bool) → A.admits alg.new v → effect_of (λ w. A.word w v) (λ b. A.truth b v) r ≡ gives_a records (A.word value v) (values_of (λ w. A.word w v) from.now)) }
+    ensures gives { IfOk result (λ r. GivesEffect A.Alg alg.new r (λ v. gives_a records (A.word value v) (values_of (λ w. A.word w v) from.now))) }
 {
     let cr = record_if(alg, records, value, from)?;
     Ok(Effect {

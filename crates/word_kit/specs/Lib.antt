@@ -2,6 +2,8 @@ pub mod Words
 pub mod Bits
 pub mod Products
 pub mod Operations
+pub mod Frame
+pub mod Algebra
 pub mod PlainOperations
 pub mod PlainRange
 pub mod Formulas

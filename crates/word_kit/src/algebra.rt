@@ -5,6 +5,7 @@ ghost use Rattle.word_kit.specs.Words.{complement, same, sum_word, sum_carries, 
 ghost use Rattle.word_kit.specs.Bits.{bit_of, with_bit, byte_of, joined, word_and, word_or, word_xor, shifted_left, shifted_right, shifted_arith, rotated};
 ghost use Rattle.word_kit.specs.Products.{product_low, product_high, quotient, remainder, divide_faults};
 ghost use Rattle.word_kit.specs.Operations.{Operations};
+ghost use Rattle.word_kit.specs.Frame.{IsLater, MayUntie};
 
 use crate::NoMemory;
 
@@ -13,7 +14,7 @@ use crate::NoMemory;
 /// A value means a number or a truth under each assignment of truths to variables, and no call changes the meaning of a
 /// value. Each call answers a value that means its operation on the meanings of its operands, under every assignment
 /// that the algebra admits. Each call that takes values has the condition that the algebra owns them; what a call
-/// answers is owned, what is owned stays so, and what is admitted later was admitted before.
+/// answers is owned. What is owned stays so, what is admitted later was admitted before, and an input stays an input.
 ///
 /// A call answers NoMemory only where the algebra is one that takes memory. Only products and divisions raise the
 /// opaque number, which counts results that nothing ties to their operands.
@@ -39,6 +40,8 @@ pub trait Alg {
     ghost flag_reach: { Self.B → ℕ };
     // The assignments that fit what the algebra holds.
     ghost admits: { Self → (ℕ → Bool) → Type 0 };
+    // Whether the variable k + 1 is an input, which nothing ties.
+    ghost inputs: { Self → ℕ → Type 0 };
     // How many results nothing ties to their operands.
     ghost opaque: { Self → ℕ };
     // Whether a call may want memory that isn't there.
@@ -129,12 +132,8 @@ pub trait Alg {
         requires x_owned { word_reach x ≤ extent self.old }
         requires y_owned { word_reach y ≤ extent self.old }
         requires carry_owned { flag_reach carry ≤ extent self.old }
-        ensures grows { extent self.old ≤ extent self.new }
-        ensures earlier { (a : ℕ → Bool) → admits self.new a → admits self.old a }
-        ensures opaque { opaque self.new ≡ opaque self.old }
-        ensures made_sum { IfOk result (λ r. r.0 ≡ (ops.add_of (held self.old) x y carry).word) }
-        ensures made_carry { IfOk result (λ r. r.1 ≡ (ops.add_of (held self.old) x y carry).carry) }
-        ensures held { OnOk result (held self.new ≡ (ops.add_of (held self.old) x y carry).held) }
+        ensures later { IsLater extent admits inputs opaque self.old self.new }
+        ensures makes { IfOk result (λ r. record { word = r.0; carry = r.1; held = held self.new } ≡ ops.add_of (held self.old) x y carry) }
         ensures fails { OnErr result (IsTrue takes_memory) }
         ensures sum_owned { IfOk result (λ r. word_reach r.0 ≤ extent self.new) }
         ensures carry_owned { IfOk result (λ r. flag_reach r.1 ≤ extent self.new) }
@@ -145,11 +144,8 @@ pub trait Alg {
     fn less(&mut self, x: Self::W, y: Self::W, signed: bool) -> Result<Self::B, NoMemory>
         requires x_owned { word_reach x ≤ extent self.old }
         requires y_owned { word_reach y ≤ extent self.old }
-        ensures grows { extent self.old ≤ extent self.new }
-        ensures earlier { (a : ℕ → Bool) → admits self.new a → admits self.old a }
-        ensures opaque { opaque self.new ≡ opaque self.old }
-        ensures made { IfOk result (λ r. r ≡ (ops.less_of (held self.old) x y signed).flag) }
-        ensures held { OnOk result (held self.new ≡ (ops.less_of (held self.old) x y signed).held) }
+        ensures later { IsLater extent admits inputs opaque self.old self.new }
+        ensures makes { IfOk result (λ r. record { flag = r; held = held self.new } ≡ ops.less_of (held self.old) x y signed) }
         ensures fails { OnErr result (IsTrue takes_memory) }
         ensures owned { IfOk result (λ r. flag_reach r ≤ extent self.new) }
         ensures means { IfOk result (λ r. (a : ℕ → Bool) → admits self.new a → truth r a ≡ is_less (word x a) (word y a) signed) };
@@ -158,11 +154,8 @@ pub trait Alg {
     fn equal(&mut self, x: Self::W, y: Self::W) -> Result<Self::B, NoMemory>
         requires x_owned { word_reach x ≤ extent self.old }
         requires y_owned { word_reach y ≤ extent self.old }
-        ensures grows { extent self.old ≤ extent self.new }
-        ensures earlier { (a : ℕ → Bool) → admits self.new a → admits self.old a }
-        ensures opaque { opaque self.new ≡ opaque self.old }
-        ensures made { IfOk result (λ r. r ≡ (ops.equal_of (held self.old) x y).flag) }
-        ensures held { OnOk result (held self.new ≡ (ops.equal_of (held self.old) x y).held) }
+        ensures later { IsLater extent admits inputs opaque self.old self.new }
+        ensures makes { IfOk result (λ r. record { flag = r; held = held self.new } ≡ ops.equal_of (held self.old) x y) }
         ensures fails { OnErr result (IsTrue takes_memory) }
         ensures owned { IfOk result (λ r. flag_reach r ≤ extent self.new) }
         ensures means { IfOk result (λ r. (a : ℕ → Bool) → admits self.new a → truth r a ≡ eqb (word x a) (word y a)) };
@@ -172,11 +165,8 @@ pub trait Alg {
         requires b_owned { flag_reach b ≤ extent self.old }
         requires x_owned { word_reach x ≤ extent self.old }
         requires y_owned { word_reach y ≤ extent self.old }
-        ensures grows { extent self.old ≤ extent self.new }
-        ensures earlier { (a : ℕ → Bool) → admits self.new a → admits self.old a }
-        ensures opaque { opaque self.new ≡ opaque self.old }
-        ensures made { IfOk result (λ r. r ≡ (ops.pick_of (held self.old) b x y).word) }
-        ensures held { OnOk result (held self.new ≡ (ops.pick_of (held self.old) b x y).held) }
+        ensures later { IsLater extent admits inputs opaque self.old self.new }
+        ensures makes { IfOk result (λ r. record { word = r; held = held self.new } ≡ ops.pick_of (held self.old) b x y) }
         ensures fails { OnErr result (IsTrue takes_memory) }
         ensures owned { IfOk result (λ r. word_reach r ≤ extent self.new) }
         ensures means { IfOk result (λ r. (a : ℕ → Bool) → admits self.new a → word r a ≡ cond (truth b a) (word x a) (word y a)) };
@@ -185,11 +175,8 @@ pub trait Alg {
     fn and(&mut self, x: Self::W, y: Self::W) -> Result<Self::W, NoMemory>
         requires x_owned { word_reach x ≤ extent self.old }
         requires y_owned { word_reach y ≤ extent self.old }
-        ensures grows { extent self.old ≤ extent self.new }
-        ensures earlier { (a : ℕ → Bool) → admits self.new a → admits self.old a }
-        ensures opaque { opaque self.new ≡ opaque self.old }
-        ensures made { IfOk result (λ r. r ≡ (ops.and_of (held self.old) x y).word) }
-        ensures held { OnOk result (held self.new ≡ (ops.and_of (held self.old) x y).held) }
+        ensures later { IsLater extent admits inputs opaque self.old self.new }
+        ensures makes { IfOk result (λ r. record { word = r; held = held self.new } ≡ ops.and_of (held self.old) x y) }
         ensures fails { OnErr result (IsTrue takes_memory) }
         ensures owned { IfOk result (λ r. word_reach r ≤ extent self.new) }
         ensures means { IfOk result (λ r. (a : ℕ → Bool) → admits self.new a → word r a ≡ word_and (word x a) (word y a)) };
@@ -198,11 +185,8 @@ pub trait Alg {
     fn or(&mut self, x: Self::W, y: Self::W) -> Result<Self::W, NoMemory>
         requires x_owned { word_reach x ≤ extent self.old }
         requires y_owned { word_reach y ≤ extent self.old }
-        ensures grows { extent self.old ≤ extent self.new }
-        ensures earlier { (a : ℕ → Bool) → admits self.new a → admits self.old a }
-        ensures opaque { opaque self.new ≡ opaque self.old }
-        ensures made { IfOk result (λ r. r ≡ (ops.or_of (held self.old) x y).word) }
-        ensures held { OnOk result (held self.new ≡ (ops.or_of (held self.old) x y).held) }
+        ensures later { IsLater extent admits inputs opaque self.old self.new }
+        ensures makes { IfOk result (λ r. record { word = r; held = held self.new } ≡ ops.or_of (held self.old) x y) }
         ensures fails { OnErr result (IsTrue takes_memory) }
         ensures owned { IfOk result (λ r. word_reach r ≤ extent self.new) }
         ensures means { IfOk result (λ r. (a : ℕ → Bool) → admits self.new a → word r a ≡ word_or (word x a) (word y a)) };
@@ -211,11 +195,8 @@ pub trait Alg {
     fn xor(&mut self, x: Self::W, y: Self::W) -> Result<Self::W, NoMemory>
         requires x_owned { word_reach x ≤ extent self.old }
         requires y_owned { word_reach y ≤ extent self.old }
-        ensures grows { extent self.old ≤ extent self.new }
-        ensures earlier { (a : ℕ → Bool) → admits self.new a → admits self.old a }
-        ensures opaque { opaque self.new ≡ opaque self.old }
-        ensures made { IfOk result (λ r. r ≡ (ops.xor_of (held self.old) x y).word) }
-        ensures held { OnOk result (held self.new ≡ (ops.xor_of (held self.old) x y).held) }
+        ensures later { IsLater extent admits inputs opaque self.old self.new }
+        ensures makes { IfOk result (λ r. record { word = r; held = held self.new } ≡ ops.xor_of (held self.old) x y) }
         ensures fails { OnErr result (IsTrue takes_memory) }
         ensures owned { IfOk result (λ r. word_reach r ≤ extent self.new) }
         ensures means { IfOk result (λ r. (a : ℕ → Bool) → admits self.new a → word r a ≡ word_xor (word x a) (word y a)) };
@@ -224,11 +205,8 @@ pub trait Alg {
     fn shift_left(&mut self, x: Self::W, by: Self::W) -> Result<Self::W, NoMemory>
         requires x_owned { word_reach x ≤ extent self.old }
         requires by_owned { word_reach by ≤ extent self.old }
-        ensures grows { extent self.old ≤ extent self.new }
-        ensures earlier { (a : ℕ → Bool) → admits self.new a → admits self.old a }
-        ensures opaque { opaque self.new ≡ opaque self.old }
-        ensures made { IfOk result (λ r. r ≡ (ops.shift_left_of (held self.old) x by).word) }
-        ensures held { OnOk result (held self.new ≡ (ops.shift_left_of (held self.old) x by).held) }
+        ensures later { IsLater extent admits inputs opaque self.old self.new }
+        ensures makes { IfOk result (λ r. record { word = r; held = held self.new } ≡ ops.shift_left_of (held self.old) x by) }
         ensures fails { OnErr result (IsTrue takes_memory) }
         ensures owned { IfOk result (λ r. word_reach r ≤ extent self.new) }
         ensures means { IfOk result (λ r. (a : ℕ → Bool) → admits self.new a → word r a ≡ shifted_left (word x a) (word by a)) };
@@ -237,11 +215,8 @@ pub trait Alg {
     fn shift_right(&mut self, x: Self::W, by: Self::W) -> Result<Self::W, NoMemory>
         requires x_owned { word_reach x ≤ extent self.old }
         requires by_owned { word_reach by ≤ extent self.old }
-        ensures grows { extent self.old ≤ extent self.new }
-        ensures earlier { (a : ℕ → Bool) → admits self.new a → admits self.old a }
-        ensures opaque { opaque self.new ≡ opaque self.old }
-        ensures made { IfOk result (λ r. r ≡ (ops.shift_right_of (held self.old) x by).word) }
-        ensures held { OnOk result (held self.new ≡ (ops.shift_right_of (held self.old) x by).held) }
+        ensures later { IsLater extent admits inputs opaque self.old self.new }
+        ensures makes { IfOk result (λ r. record { word = r; held = held self.new } ≡ ops.shift_right_of (held self.old) x by) }
         ensures fails { OnErr result (IsTrue takes_memory) }
         ensures owned { IfOk result (λ r. word_reach r ≤ extent self.new) }
         ensures means { IfOk result (λ r. (a : ℕ → Bool) → admits self.new a → word r a ≡ shifted_right (word x a) (word by a)) };
@@ -250,11 +225,8 @@ pub trait Alg {
     fn shift_arith(&mut self, x: Self::W, by: Self::W) -> Result<Self::W, NoMemory>
         requires x_owned { word_reach x ≤ extent self.old }
         requires by_owned { word_reach by ≤ extent self.old }
-        ensures grows { extent self.old ≤ extent self.new }
-        ensures earlier { (a : ℕ → Bool) → admits self.new a → admits self.old a }
-        ensures opaque { opaque self.new ≡ opaque self.old }
-        ensures made { IfOk result (λ r. r ≡ (ops.shift_arith_of (held self.old) x by).word) }
-        ensures held { OnOk result (held self.new ≡ (ops.shift_arith_of (held self.old) x by).held) }
+        ensures later { IsLater extent admits inputs opaque self.old self.new }
+        ensures makes { IfOk result (λ r. record { word = r; held = held self.new } ≡ ops.shift_arith_of (held self.old) x by) }
         ensures fails { OnErr result (IsTrue takes_memory) }
         ensures owned { IfOk result (λ r. word_reach r ≤ extent self.new) }
         ensures means { IfOk result (λ r. (a : ℕ → Bool) → admits self.new a → word r a ≡ shifted_arith (word x a) (word by a)) };
@@ -263,11 +235,8 @@ pub trait Alg {
     fn rotate(&mut self, x: Self::W, by: Self::W) -> Result<Self::W, NoMemory>
         requires x_owned { word_reach x ≤ extent self.old }
         requires by_owned { word_reach by ≤ extent self.old }
-        ensures grows { extent self.old ≤ extent self.new }
-        ensures earlier { (a : ℕ → Bool) → admits self.new a → admits self.old a }
-        ensures opaque { opaque self.new ≡ opaque self.old }
-        ensures made { IfOk result (λ r. r ≡ (ops.rotate_of (held self.old) x by).word) }
-        ensures held { OnOk result (held self.new ≡ (ops.rotate_of (held self.old) x by).held) }
+        ensures later { IsLater extent admits inputs opaque self.old self.new }
+        ensures makes { IfOk result (λ r. record { word = r; held = held self.new } ≡ ops.rotate_of (held self.old) x by) }
         ensures fails { OnErr result (IsTrue takes_memory) }
         ensures owned { IfOk result (λ r. word_reach r ≤ extent self.new) }
         ensures means { IfOk result (λ r. (a : ℕ → Bool) → admits self.new a → word r a ≡ rotated (word x a) (word by a)) };
@@ -276,11 +245,8 @@ pub trait Alg {
     fn mul_low(&mut self, x: Self::W, y: Self::W) -> Result<Self::W, NoMemory>
         requires x_owned { word_reach x ≤ extent self.old }
         requires y_owned { word_reach y ≤ extent self.old }
-        ensures grows { extent self.old ≤ extent self.new }
-        ensures earlier { (a : ℕ → Bool) → admits self.new a → admits self.old a }
-        ensures opaque { opaque self.old ≤ opaque self.new }
-        ensures made { IfOk result (λ r. r ≡ (ops.mul_low_of (held self.old) x y).word) }
-        ensures held { OnOk result (held self.new ≡ (ops.mul_low_of (held self.old) x y).held) }
+        ensures later { MayUntie extent admits inputs opaque self.old self.new }
+        ensures makes { IfOk result (λ r. record { word = r; held = held self.new } ≡ ops.mul_low_of (held self.old) x y) }
         ensures fails { OnErr result (IsTrue takes_memory) }
         ensures owned { IfOk result (λ r. word_reach r ≤ extent self.new) }
         ensures means { IfOk result (λ r. (a : ℕ → Bool) → admits self.new a → word r a ≡ product_low (word x a) (word y a)) };
@@ -289,11 +255,8 @@ pub trait Alg {
     fn mul_high(&mut self, x: Self::W, y: Self::W, signed: bool) -> Result<Self::W, NoMemory>
         requires x_owned { word_reach x ≤ extent self.old }
         requires y_owned { word_reach y ≤ extent self.old }
-        ensures grows { extent self.old ≤ extent self.new }
-        ensures earlier { (a : ℕ → Bool) → admits self.new a → admits self.old a }
-        ensures opaque { opaque self.old ≤ opaque self.new }
-        ensures made { IfOk result (λ r. r ≡ (ops.mul_high_of (held self.old) x y signed).word) }
-        ensures held { OnOk result (held self.new ≡ (ops.mul_high_of (held self.old) x y signed).held) }
+        ensures later { MayUntie extent admits inputs opaque self.old self.new }
+        ensures makes { IfOk result (λ r. record { word = r; held = held self.new } ≡ ops.mul_high_of (held self.old) x y signed) }
         ensures fails { OnErr result (IsTrue takes_memory) }
         ensures owned { IfOk result (λ r. word_reach r ≤ extent self.new) }
         ensures means { IfOk result (λ r. (a : ℕ → Bool) → admits self.new a → word r a ≡ product_high (word x a) (word y a) signed) };
@@ -310,13 +273,8 @@ pub trait Alg {
         requires high_owned { word_reach high ≤ extent self.old }
         requires low_owned { word_reach low ≤ extent self.old }
         requires by_owned { word_reach by ≤ extent self.old }
-        ensures grows { extent self.old ≤ extent self.new }
-        ensures earlier { (a : ℕ → Bool) → admits self.new a → admits self.old a }
-        ensures opaque { opaque self.old ≤ opaque self.new }
-        ensures made_quotient { IfOk result (λ r. r.0 ≡ (ops.div_of (held self.old) high low by signed).quotient) }
-        ensures made_remainder { IfOk result (λ r. r.1 ≡ (ops.div_of (held self.old) high low by signed).remainder) }
-        ensures made_faults { IfOk result (λ r. r.2 ≡ (ops.div_of (held self.old) high low by signed).faults) }
-        ensures held { OnOk result (held self.new ≡ (ops.div_of (held self.old) high low by signed).held) }
+        ensures later { MayUntie extent admits inputs opaque self.old self.new }
+        ensures makes { IfOk result (λ r. record { quotient = r.0; remainder = r.1; faults = r.2; held = held self.new } ≡ ops.div_of (held self.old) high low by signed) }
         ensures fails { OnErr result (IsTrue takes_memory) }
         ensures quotient_owned { IfOk result (λ r. word_reach r.0 ≤ extent self.new) }
         ensures remainder_owned { IfOk result (λ r. word_reach r.1 ≤ extent self.new) }
@@ -329,11 +287,8 @@ pub trait Alg {
     fn both(&mut self, b: Self::B, c: Self::B) -> Result<Self::B, NoMemory>
         requires b_owned { flag_reach b ≤ extent self.old }
         requires c_owned { flag_reach c ≤ extent self.old }
-        ensures grows { extent self.old ≤ extent self.new }
-        ensures earlier { (a : ℕ → Bool) → admits self.new a → admits self.old a }
-        ensures opaque { opaque self.new ≡ opaque self.old }
-        ensures made { IfOk result (λ r. r ≡ (ops.both_of (held self.old) b c).flag) }
-        ensures held { OnOk result (held self.new ≡ (ops.both_of (held self.old) b c).held) }
+        ensures later { IsLater extent admits inputs opaque self.old self.new }
+        ensures makes { IfOk result (λ r. record { flag = r; held = held self.new } ≡ ops.both_of (held self.old) b c) }
         ensures fails { OnErr result (IsTrue takes_memory) }
         ensures owned { IfOk result (λ r. flag_reach r ≤ extent self.new) }
         ensures means { IfOk result (λ r. (a : ℕ → Bool) → admits self.new a → truth r a ≡ (truth b a) && (truth c a)) };
@@ -342,11 +297,8 @@ pub trait Alg {
     fn either(&mut self, b: Self::B, c: Self::B) -> Result<Self::B, NoMemory>
         requires b_owned { flag_reach b ≤ extent self.old }
         requires c_owned { flag_reach c ≤ extent self.old }
-        ensures grows { extent self.old ≤ extent self.new }
-        ensures earlier { (a : ℕ → Bool) → admits self.new a → admits self.old a }
-        ensures opaque { opaque self.new ≡ opaque self.old }
-        ensures made { IfOk result (λ r. r ≡ (ops.either_of (held self.old) b c).flag) }
-        ensures held { OnOk result (held self.new ≡ (ops.either_of (held self.old) b c).held) }
+        ensures later { IsLater extent admits inputs opaque self.old self.new }
+        ensures makes { IfOk result (λ r. record { flag = r; held = held self.new } ≡ ops.either_of (held self.old) b c) }
         ensures fails { OnErr result (IsTrue takes_memory) }
         ensures owned { IfOk result (λ r. flag_reach r ≤ extent self.new) }
         ensures means { IfOk result (λ r. (a : ℕ → Bool) → admits self.new a → truth r a ≡ (truth b a) || (truth c a)) };
@@ -355,11 +307,8 @@ pub trait Alg {
     fn differ(&mut self, b: Self::B, c: Self::B) -> Result<Self::B, NoMemory>
         requires b_owned { flag_reach b ≤ extent self.old }
         requires c_owned { flag_reach c ≤ extent self.old }
-        ensures grows { extent self.old ≤ extent self.new }
-        ensures earlier { (a : ℕ → Bool) → admits self.new a → admits self.old a }
-        ensures opaque { opaque self.new ≡ opaque self.old }
-        ensures made { IfOk result (λ r. r ≡ (ops.differ_of (held self.old) b c).flag) }
-        ensures held { OnOk result (held self.new ≡ (ops.differ_of (held self.old) b c).held) }
+        ensures later { IsLater extent admits inputs opaque self.old self.new }
+        ensures makes { IfOk result (λ r. record { flag = r; held = held self.new } ≡ ops.differ_of (held self.old) b c) }
         ensures fails { OnErr result (IsTrue takes_memory) }
         ensures owned { IfOk result (λ r. flag_reach r ≤ extent self.new) }
         ensures means { IfOk result (λ r. (a : ℕ → Bool) → admits self.new a → truth r a ≡ not (same (truth b a) (truth c a))) };

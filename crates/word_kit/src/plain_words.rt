@@ -29,6 +29,8 @@ impl Alg for Plain {
 
     ghost admits = { λ s a. Unit {0} };
 
+    ghost inputs = { λ s k. Unit {0} };
+
     ghost opaque = { λ s. 0 };
 
     ghost takes_memory = { false };
