@@ -17,7 +17,7 @@ use Rattle.machines.specs.Host.{Choice, choice_at, Core, Memory, value_at, has_r
 use Rattle.machines.specs.Representation.{location_place, AreInRange, in_slot}
 use Rattle.symbolic_tiles.specs.Perform.{perform}
 use Rattle.symbolic_tiles.specs.Relocated.{op_at}
-use Rattle.symbolic_tiles.specs.Row.{GoesThrough, IsDone, window_of, loaded, stored, DoesRow, WritesHeld}
+use Rattle.symbolic_tiles.specs.Row.{GoesThrough, TilePostcondition, window_of, loaded, stored, DoesRow, WritesHeld}
 use Rattle.row_laws.specs.Laws.{Next, AgreeBut}
 use Rattle.symbolic_tiles.proofs.Memory.{update_other}
 use Rattle.symbolic_tiles.proofs.Places.{content, slot_content, slot_gpr}
@@ -192,7 +192,7 @@ ops_do_row i ops legal are fields runs m area is_map guest host g g' core choice
     above : (r : ℕ) → r ≢ 0 → r ≢ 1 → r ≢ 2 → 3 ≤ r
     above r a b c = omega (arith, a, b, c)
 
-    is_done : (s : SymbolicState) → IsStateOf guest g' s → KeptRegs core.regs (Some s) → (after : Core) → Shows m area guest.held core s after → IsDone (window_of i) m area guest g g' core after
+    is_done : (s : SymbolicState) → IsStateOf guest g' s → KeptRegs core.regs (Some s) → (after : Core) → Shows m area guest.held core s after → TilePostcondition (window_of i) m area guest g g' core after
     is_done s is kept after sh = record {
       represents = record { locs = λ x lx alive. sh.locs x lx ∙ is.0 x lx; bytes = λ a held. sh.bytes a held ∙ is.1 a held };
       in_range = λ x lx. subst (λ v. v < location_range x) (sym (sh.locs x lx)) (by_kind x lx (grind arith));
@@ -206,11 +206,11 @@ ops_do_row i ops legal are fields runs m area is_map guest host g g' core choice
         by_kind x lx (inl low) = word_range x (s.locs x) low (sh.fits x lx)
         by_kind x lx (inr high) = subst (λ v. v < location_range x) (sym (is.0 x lx)) (fields guest g g' ready.in_range leads x high lx)
 
-    through : (s : SymbolicState) → IsStateOf guest g' s → KeptRegs core.regs (Some s) → (o : Option Core) → Kept m area guest host is_map ready.page core (Some s) o → GoesThrough o (IsDone (window_of i) m area guest g g' core)
+    through : (s : SymbolicState) → IsStateOf guest g' s → KeptRegs core.regs (Some s) → (o : Option Core) → Kept m area guest host is_map ready.page core (Some s) o → GoesThrough o (TilePostcondition (window_of i) m area guest g g' core)
     through s is kept None k = absurd k
     through s is kept (Some after) k = is_done s is kept after k
 
-    by_state : (o : Option SymbolicState) → execute_ops guest host ops choices (state_of g core.regs core.flags) ≡ o → LeadsTo guest g' (execute_ops guest host ops choices (state_of g core.regs core.flags)) → GoesThrough (perform host (map (op_at area) (map (op_of m) ops)) choices core) (IsDone (window_of i) m area guest g g' core)
+    by_state : (o : Option SymbolicState) → execute_ops guest host ops choices (state_of g core.regs core.flags) ≡ o → LeadsTo guest g' (execute_ops guest host ops choices (state_of g core.regs core.flags)) → GoesThrough (perform host (map (op_at area) (map (op_of m) ops)) choices core) (TilePostcondition (window_of i) m area guest g g' core)
     by_state None e is = absurd (subst (LeadsTo guest g') e is)
     by_state (Some s) e is =
         through s (subst (LeadsTo guest g') e is) (subst (KeptRegs core.regs) e (ops_regs guest host ops choices (state_of g core.regs core.flags) are))

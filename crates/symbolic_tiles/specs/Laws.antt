@@ -10,7 +10,7 @@ use Rattle.machines.specs.Host.{Core, Host, reads, puts, acts}
 use Rattle.machines.specs.Representation.{location_place, IsHomePage, Represents}
 use Rattle.ia_codec.specs.declared.op.Op.{Op}
 use Rattle.symbolic_tiles.specs.Perform.{is_jump, op_outcome, then_at}
-use Rattle.symbolic_tiles.specs.Row.{IsUnowned, WritesHeld, Window, IsReady, IsDone}
+use Rattle.symbolic_tiles.specs.Row.{IsUnowned, WritesHeld, Window, TilePrecondition, TilePostcondition}
 
 -- A place of a live location has its value and can be read.
 abbrev pub PlacesAreRead : Type 0
@@ -45,7 +45,7 @@ pub record KeepsMemory (m : Map) (area : ℕ) (before after : Core) : Type 0 whe
 abbrev pub LoadsKeepMemory : Type 0
 LoadsKeepMemory =
     (window : Window) (m : Map) (area : ℕ) (guest host : Rights) (g g' : Guest) (before after : Core) →
-    IsReady window m area guest host g before → IsDone window m area guest g g' before after → g'.bytes ≡ g.bytes → KeepsMemory m area before after
+    TilePrecondition window m area guest host g before → TilePostcondition window m area guest g g' before after → g'.bytes ≡ g.bytes → KeepsMemory m area before after
 
 -- what a program may write it holds
 abbrev pub ProgramsWriteHeld : Type 0

@@ -73,7 +73,7 @@ WritesHeld r = (a : ℕ) → r.writable a ≡ true → r.held a ≡ true
 
 -- The host state in which the ops are run, and the guest state that it represents. Of the guest's memory the host needs
 -- no more than the window's own bytes.
-pub record IsReady (window : Window) (map : Map) (area : ℕ) (guest host : Rights) (g : Guest) (core : Core) : Type 0 where
+pub record TilePrecondition (window : Window) (map : Map) (area : ℕ) (guest host : Rights) (g : Guest) (core : Core) : Type 0 where
   pub page : IsHomePage area guest host
   pub writes_held : WritesHeld guest
   pub loads : (a : ℕ) → Contains (window.loads g) a → host.held a ≡ true
@@ -86,7 +86,7 @@ pub record IsReady (window : Window) (map : Map) (area : ℕ) (guest host : Righ
 -- place has a value in its range. A register other than the temporaries eax, ecx, edx is kept unless a location stands
 -- in it that may be written. Of memory there is kept what is neither the guest's nor a home in use: all else outside the
 -- home page, and in it the homes of GPRs that registers hold. The flags have the window's condition.
-pub record IsDone (window : Window) (map : Map) (area : ℕ) (guest : Rights) (g g' : Guest) (before after : Core) : Type 0 where
+pub record TilePostcondition (window : Window) (map : Map) (area : ℕ) (guest : Rights) (g g' : Guest) (before after : Core) : Type 0 where
   pub represents : Represents map area (λ x. window.dead x ≡ false) guest.held g' after
   pub in_range : (x : ℕ) → x < location_count → value_at after (location_place map area x) < location_range x
   pub registers : (r : ℕ) → r ≢ eax → r ≢ ecx → r ≢ edx → ((x : ℕ) → Contains window.writes x → slot_of map x ≢ Some r) → after.regs r ≡ before.regs r
@@ -96,10 +96,10 @@ pub record IsDone (window : Window) (map : Map) (area : ℕ) (guest : Rights) (g
 
 -- The ops do what the window does, at this map and area: with any rights, also where the host has nothing of the
 -- guest's memory but the access, from each state that represents the guest, and for every list of choices.
-abbrev pub DoWindow : Window → Map → ℕ → List Op → Type 0
-DoWindow window map area ops =
+abbrev pub Implements : Window → Map → ℕ → List Op → Type 0
+Implements window map area ops =
     (guest host : Rights) (g g' : Guest) (core : Core) (choices : List Choice) →
-    IsReady window map area guest host g core → window.outcome guest g ≡ Goes g' → GoesThrough (perform host ops choices core) (IsDone window map area guest g g' core)
+    TilePrecondition window map area guest host g core → window.outcome guest g ≡ Goes g' → GoesThrough (perform host ops choices core) (TilePostcondition window map area guest g g' core)
 
 -- the window of one instruction, behind which every location may be needed
 abbrev pub window_of : Instr → Window
@@ -115,8 +115,8 @@ window_of i = record {
 
 -- a tile does what its instruction's row does, under every map and at every area
 abbrev pub DoesRow : Instr → (Map → List Op) → Type 0
-DoesRow i tile = (m : Map) (area : ℕ) → IsMap m → DoWindow (window_of i) m area (map (op_at area) (tile m))
+DoesRow i tile = (m : Map) (area : ℕ) → IsMap m → Implements (window_of i) m area (map (op_at area) (tile m))
 
 -- ops do what an instruction's row does, under a map and at every area
 abbrev pub DoesRowAt : Instr → Map → List Op → Type 0
-DoesRowAt i m ops = (area : ℕ) → DoWindow (window_of i) m area (map (op_at area) ops)
+DoesRowAt i m ops = (area : ℕ) → Implements (window_of i) m area (map (op_at area) ops)

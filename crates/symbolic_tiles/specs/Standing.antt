@@ -14,17 +14,17 @@ use Rattle.symbolic_tiles.specs.Flow.{is_taken, Exit, Leaves, Leaps, Stops, Call
 
 module _ (host : Rights) (step : Host → Outcome Host) where
   -- the op stands at an address, and the code goes on at `next`
-  abbrev pub StandsAt : ℕ → Op → ℕ → Type 0
-  StandsAt at op next = (h : Host) → h.eip ≡ at → step h ≡ acts host op next h
+  abbrev pub OpAt : ℕ → Op → ℕ → Type 0
+  OpAt at op next = (h : Host) → h.eip ≡ at → step h ≡ acts host op next h
 
-  abbrev pub StandAt : ℕ → List Op → ℕ → Type 0
-  StandAt at [] end = at ≡ end
-  StandAt at (op ∷ ops) end = (next : ℕ) × StandsAt at op next × StandAt next ops end
+  abbrev pub OpsAt : ℕ → List Op → ℕ → Type 0
+  OpsAt at [] end = at ≡ end
+  OpsAt at (op ∷ ops) end = (next : ℕ) × OpAt at op next × OpsAt next ops end
 
   -- The machine that comes to them makes a step for each, and stands behind them with the core that they lead to.
   abbrev pub AreWalked : Type 0
   AreWalked =
-      (ops : List Op) (at end : ℕ) (h : Host) (after : Core) → StandAt at ops end → h.eip ≡ at → perform host ops h.choices h.core ≡ Some after →
+      (ops : List Op) (at end : ℕ) (h : Host) (after : Core) → OpsAt at ops end → h.eip ≡ at → perform host ops h.choices h.core ≡ Some after →
       (left : List Choice) × Walks Anywhere step (length ops) h (record { core = after; eip = end; choices = left })
 
 -- whatever the rights and the machine's step are
@@ -45,7 +45,7 @@ module _ (host : Rights) (area : ℕ) (step : Host → Outcome Host) (labels : �
 
   abbrev pub ItemsAt : ℕ → List FlowOp → Type 0
   ItemsAt at [] = Unit {0}
-  ItemsAt at (Plain op ∷ items) = (next : ℕ) × StandsAt host step at (op_at area op) next × ItemsAt next items
+  ItemsAt at (Plain op ∷ items) = (next : ℕ) × OpAt host step at (op_at area op) next × ItemsAt next items
   ItemsAt at (Jump code mark ∷ items) = (next : ℕ) × JumpsAt at code (labels mark) next × ItemsAt next items
   ItemsAt at (Mark mark ∷ items) = (labels mark ≡ at) × ItemsAt at items
   ItemsAt at (Edge target ∷ items) = (next : ℕ) × Contains edges (record { target = target; at = at }) × ItemsAt next items
