@@ -13,7 +13,8 @@ use Rattle.circuit.specs.Extensions.{GatesAgree}
 use Rattle.circuit.specs.declared.literals.Lit.{Lit}
 use Rattle.circuit.specs.declared.literals.Lit.TheVariants.{Var}
 use Rattle.indexmap.specs.IndexSet.{insert_key}
-use Rattle.circuit.specs.Nodes.{AllAgree, IsOrdered, node_reach, told_place, free_count, is_free}
+use Rattle.circuit.specs.Nodes.{AllAgree, IsInput, IsOrdered, node_reach, told_place, free_count, is_free}
+use Rattle.circuit.specs.Frame.{MayUntie}
 use Rattle.circuit.specs.declared.nodes.Node.{Node}
 use Rattle.circuit.specs.declared.nodes.Node.TheVariants.{Input}
 use Rattle.word_kit.specs.Words.{one_if}
@@ -36,6 +37,10 @@ AllAgree-insert_key eq xs y v h k n e = h k n (slice_get-insert_key eq xs y k n 
 
 pub AllAgree-inserted : (eq : Node → Node → Bool) (xs ys : List Node) (y : Node) (v : ℕ → Bool) → ys ≡ insert_key eq xs y → AllAgree ys v → AllAgree xs v
 AllAgree-inserted eq xs ys y v e h = AllAgree-insert_key eq xs y v (subst (λ ks. AllAgree ks v) e h)
+
+IsInput-inserted : (eq : Node → Node → Bool) (xs ys : List Node) (y : Node) (k : ℕ) → ys ≡ insert_key eq xs y → IsInput xs k → IsInput ys k
+unfolding IsInput
+IsInput-inserted eq xs ys y k e h = subst (λ ks. slice_get ks k ≡ Some (Input k)) (sym e) (slice_get-insert_key eq xs y k (Input k) h)
 
 pub kept_at : (P : Node → ℕ → Type 0) (b : Bool) (xs : List Node) (y : Node) → ((k : ℕ) (n : Node) → slice_get xs k ≡ Some n → P n k) → P y (length xs)
     → (k : ℕ) (n : Node) → slice_get (if b then xs else xs ++ y ∷ []) k ≡ Some n → P n k
@@ -74,6 +79,18 @@ count_of false xs y = let r = count_append xs y in (omega (arith, r), λ h. r �
 
 pub counted : (eq : Node → Node → Bool) (xs ys : List Node) (y : Node) → ys ≡ insert_key eq xs y → (free_count xs ≤ free_count ys) × (is_free y ≡ false → free_count ys ≡ free_count xs)
 counted eq xs ys y e = subst (λ zs. (free_count xs ≤ free_count zs) × (is_free y ≡ false → free_count zs ≡ free_count xs)) (sym e) (count_of (list_any (eq y) xs) xs y)
+
+longer_of : (b : Bool) (xs : List Node) (y : Node) → length xs ≤ length (if b then xs else xs ++ y ∷ [])
+longer_of true xs y = omega arith
+longer_of false xs y = let l = length-append xs (y ∷ []) in omega (arith, l)
+
+pub later_inserted : (eq : Node → Node → Bool) (xs ys : List Node) (y : Node) → ys ≡ insert_key eq xs y → MayUntie xs ys
+later_inserted eq xs ys y e = record {
+  grows = subst (λ zs. length xs ≤ length zs) (sym e) (longer_of (list_any (eq y) xs) xs y);
+  earlier = λ v h. AllAgree-inserted eq xs ys y v e h;
+  inputs = λ k h. IsInput-inserted eq xs ys y k e h;
+  rises = (counted eq xs ys y e).0;
+}
 
 absent_step : (eq : Node → Node → Bool) (x y : Node) (xs : List Node) (b : Bool) → eq y x ≡ b → (b ≡ true → ⊥) → list_any (eq y) xs ≡ false → list_any (eq y) (x ∷ xs) ≡ false
 absent_step eq x y xs true e n r = absurd (n refl)
@@ -115,6 +132,17 @@ input_lit (Err q) l m h e = tt
 pub input_held : {E : Type 0} (r : Result Lit E) (now xs ys : List Node) → OnOk r (now ≡ xs) → xs ≡ ys → OnOk r (now ≡ ys)
 input_held (Ok q) now xs ys h e = h ∙ e
 input_held (Err q) now xs ys h e = tt
+
+input_there : (xs ys : List Node) → ys ≡ xs ++ Input (length xs) ∷ [] → IsInput ys (length xs)
+unfolding IsInput
+input_there xs ys e =
+    let l = length-append xs (Input (length xs) ∷ []) in
+    let s : slice_get (xs ++ Input (length xs) ∷ []) (length xs) ≡ Some (Input (length xs)) = slice_get-get_or (xs ++ Input (length xs) ∷ []) (length xs) (Input (length xs)) (omega arith) ∙ ap Some (get_or-append_seam xs (Input (length xs)) [] (Input (length xs))) in
+    subst (λ ks. slice_get ks (length xs) ≡ Some (Input (length xs))) (sym e) s
+
+pub input_stands : {E : Type 0} (r : Result Lit E) (xs ys : List Node) → OnOk r (ys ≡ xs ++ Input (length xs) ∷ []) → OnOk r (IsInput ys (length xs))
+input_stands (Ok q) xs ys e = input_there xs ys e
+input_stands (Err q) xs ys e = tt
 
 pub GatesAgree-inserted : (eq : Node → Node → Bool) (xs ys : List Node) (y : Node) (v : ℕ → Bool) → ys ≡ insert_key eq xs y → GatesAgree ys v → GatesAgree xs v
 unfolding GatesAgree

@@ -1,5 +1,6 @@
 pub mod Literals
 pub mod Nodes
+pub mod Frame
 pub mod Sharing
 pub mod Made
 pub mod WordsMade

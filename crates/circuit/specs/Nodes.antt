@@ -37,6 +37,10 @@ Says (Free word place) b v = b ≡ bit_of (free_value word v) place
 unfoldable pub AllAgree : List Node → (ℕ → Bool) → Type 0
 AllAgree ns v = (k : ℕ) (n : Node) → slice_get ns k ≡ Some n → Says n (v (k + 1)) v
 
+-- the node of a place is an input
+unfoldable pub IsInput : List Node → ℕ → Type 0
+IsInput ns k = slice_get ns k ≡ Some (Input k)
+
 -- the highest variable that a node reads
 abbrev pub node_reach : Node → ℕ
 node_reach (Input n) = 0

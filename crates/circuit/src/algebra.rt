@@ -2,7 +2,7 @@
 
 ghost use Rattle.std.specs.Prelude.{true, List, length};
 ghost use Rattle.circuit.specs.Literals.{lit_truth, lit_reach, word_value, word_reach_below};
-ghost use Rattle.circuit.specs.Nodes.{AllAgree, free_count};
+ghost use Rattle.circuit.specs.Nodes.{AllAgree, IsInput, free_count};
 ghost use Rattle.circuit.specs.WordsMade.{gates_operations};
 ghost use Rattle.circuit.specs.GatesRange.{word_below};
 ghost use Rattle.circuit.specs.declared.nodes.Node.{Node as Kept};
@@ -33,6 +33,8 @@ impl Alg for Gates {
     ghost flag_reach = { λ b. lit_reach b };
 
     ghost admits = { λ s v. AllAgree s.nodes.keys v };
+
+    ghost inputs = { λ s k. IsInput s.nodes.keys k };
 
     ghost opaque = { λ s. free_count s.nodes.keys };
 

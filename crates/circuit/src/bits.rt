@@ -1,9 +1,10 @@
 //! What is made of a few literals: or, choice, sum, equality.
 
-ghost use Rattle.std.specs.Prelude.{◌≡◌, ◌≤◌, ◌+◌, ◌*◌, ℕ, Bool, IfOk, OnOk, not, ◌&&◌, ◌||◌, cond, length};
+ghost use Rattle.std.specs.Prelude.{◌≡◌, ◌≤◌, ◌+◌, ◌*◌, ℕ, Bool, IfOk, OnOk, ◌&&◌, ◌||◌, cond, length};
 ghost use Rattle.word_kit.specs.Words.{same, one_if};
 ghost use Rattle.circuit.specs.Literals.{lit_truth, lit_reach};
-ghost use Rattle.circuit.specs.Nodes.{AllAgree, free_count};
+ghost use Rattle.circuit.specs.Nodes.{AllAgree};
+ghost use Rattle.circuit.specs.Frame.{IsLater};
 ghost use Rattle.circuit.specs.Made.{or_made, choice_made, full_made, link_made};
 
 use crate::gates::Gates;
@@ -17,9 +18,7 @@ impl Gates {
     pub fn or_gate(&mut self, b: Lit, c: Lit) -> Result<Lit, NoMemory>
         requires b_owned { lit_reach b ≤ length self.old.nodes.keys }
         requires c_owned { lit_reach c ≤ length self.old.nodes.keys }
-        ensures grows { length self.old.nodes.keys ≤ length self.new.nodes.keys }
-        ensures earlier { (v : ℕ → Bool) → AllAgree self.new.nodes.keys v → AllAgree self.old.nodes.keys v }
-        ensures free { free_count self.new.nodes.keys ≡ free_count self.old.nodes.keys }
+        ensures later { IsLater self.old.nodes.keys self.new.nodes.keys }
         ensures means { IfOk result (λ r. (v : ℕ → Bool) → AllAgree self.new.nodes.keys v → lit_truth r v ≡ lit_truth b v || lit_truth c v) }
         ensures owned { IfOk result (λ r. lit_reach r ≤ length self.new.nodes.keys) }
         ensures made { IfOk result (λ r. r ≡ (or_made ⟦<Node as PartialEq>⟧.eq self.old.nodes.keys b c).flag) }
@@ -35,9 +34,7 @@ impl Gates {
         requires s_owned { lit_reach s ≤ length self.old.nodes.keys }
         requires x_owned { lit_reach x ≤ length self.old.nodes.keys }
         requires y_owned { lit_reach y ≤ length self.old.nodes.keys }
-        ensures grows { length self.old.nodes.keys ≤ length self.new.nodes.keys }
-        ensures earlier { (v : ℕ → Bool) → AllAgree self.new.nodes.keys v → AllAgree self.old.nodes.keys v }
-        ensures free { free_count self.new.nodes.keys ≡ free_count self.old.nodes.keys }
+        ensures later { IsLater self.old.nodes.keys self.new.nodes.keys }
         ensures means { IfOk result (λ r. (v : ℕ → Bool) → AllAgree self.new.nodes.keys v → lit_truth r v ≡ cond (lit_truth s v) (lit_truth x v) (lit_truth y v)) }
         ensures owned { IfOk result (λ r. lit_reach r ≤ length self.new.nodes.keys) }
         ensures made { IfOk result (λ r. r ≡ (choice_made ⟦<Node as PartialEq>⟧.eq self.old.nodes.keys s x y).flag) }
@@ -57,9 +54,7 @@ impl Gates {
         requires x_owned { lit_reach x ≤ length self.old.nodes.keys }
         requires y_owned { lit_reach y ≤ length self.old.nodes.keys }
         requires c_owned { lit_reach c ≤ length self.old.nodes.keys }
-        ensures grows { length self.old.nodes.keys ≤ length self.new.nodes.keys }
-        ensures earlier { (v : ℕ → Bool) → AllAgree self.new.nodes.keys v → AllAgree self.old.nodes.keys v }
-        ensures free { free_count self.new.nodes.keys ≡ free_count self.old.nodes.keys }
+        ensures later { IsLater self.old.nodes.keys self.new.nodes.keys }
         ensures sum_owned { IfOk result (λ r. lit_reach r.0 ≤ length self.new.nodes.keys) }
         ensures carry_owned { IfOk result (λ r. lit_reach r.1 ≤ length self.new.nodes.keys) }
         ensures means { IfOk result (λ r. (v : ℕ → Bool) → AllAgree self.new.nodes.keys v → one_if (lit_truth r.0 v) + 2 * one_if (lit_truth r.1 v) ≡ one_if (lit_truth x v) + one_if (lit_truth y v) + one_if (lit_truth c v)) }
@@ -81,9 +76,7 @@ impl Gates {
         requires n_owned { lit_reach n ≤ length self.old.nodes.keys }
         requires x_owned { lit_reach x ≤ length self.old.nodes.keys }
         requires y_owned { lit_reach y ≤ length self.old.nodes.keys }
-        ensures grows { length self.old.nodes.keys ≤ length self.new.nodes.keys }
-        ensures earlier { (v : ℕ → Bool) → AllAgree self.new.nodes.keys v → AllAgree self.old.nodes.keys v }
-        ensures free { free_count self.new.nodes.keys ≡ free_count self.old.nodes.keys }
+        ensures later { IsLater self.old.nodes.keys self.new.nodes.keys }
         ensures means { IfOk result (λ r. (v : ℕ → Bool) → AllAgree self.new.nodes.keys v → lit_truth r v ≡ lit_truth n v && same (lit_truth x v) (lit_truth y v)) }
         ensures owned { IfOk result (λ r. lit_reach r ≤ length self.new.nodes.keys) }
         ensures made { IfOk result (λ r. r ≡ (link_made ⟦<Node as PartialEq>⟧.eq self.old.nodes.keys n x y).flag) }

@@ -1,10 +1,11 @@
 //! Circuits, and the gates of two literals.
 
-ghost use Rattle.std.specs.Prelude.{false, ◌≡◌, ◌<◌, ◌≤◌, ◌^◌, ◌+◌, ◌++◌, ◌∷◌, [], ℕ, Bool, IfOk, OnOk, not, ◌&&◌, ◌||◌, cond, pos, length};
+ghost use Rattle.std.specs.Prelude.{false, ◌≡◌, ◌<◌, ◌≤◌, ◌^◌, ◌+◌, ◌++◌, ◌∷◌, [], ℕ, Bool, IfOk, OnOk, not, ◌&&◌, pos, length};
 ghost use Rattle.word_kit.specs.Words.{same};
 ghost use Rattle.word_kit.specs.Formulas.{literal_truth};
 ghost use Rattle.circuit.specs.Literals.{lit_truth, lit_reach, signed_reach};
-ghost use Rattle.circuit.specs.Nodes.{AllAgree, IsOrdered, Says, free_count, node_reach, told_place, is_free};
+ghost use Rattle.circuit.specs.Nodes.{AllAgree, IsInput, IsOrdered, Says, free_count, node_reach, told_place, is_free};
+ghost use Rattle.circuit.specs.Frame.{IsLater, MayUntie};
 ghost use Rattle.circuit.specs.Sharing.{IsShared, IsApart, IsBegun};
 ghost use Rattle.circuit.specs.Extensions.{GatesAgree, GateSays};
 ghost use Rattle.circuit.specs.Made.{node_made, and_made, xor_made, xor_node_made, xor_signed_made};
@@ -43,11 +44,9 @@ impl Gates {
         requires places { told_place node (length self.old.nodes.keys) ≡ length self.old.nodes.keys }
         requires apart { IsApart self.old.nodes.keys node }
         requires begun { IsBegun self.old.nodes.keys node }
-        ensures grows { length self.old.nodes.keys ≤ length self.new.nodes.keys }
-        ensures earlier { (v : ℕ → Bool) → AllAgree self.new.nodes.keys v → AllAgree self.old.nodes.keys v }
+        ensures later { MayUntie self.old.nodes.keys self.new.nodes.keys }
         ensures gates { (v : ℕ → Bool) → GatesAgree self.new.nodes.keys v → GatesAgree self.old.nodes.keys v }
         ensures free { is_free node ≡ false → free_count self.new.nodes.keys ≡ free_count self.old.nodes.keys }
-        ensures counts { free_count self.old.nodes.keys ≤ free_count self.new.nodes.keys }
         ensures owned { IfOk result (λ r. lit_reach r ≤ length self.new.nodes.keys) }
         ensures means { IfOk result (λ r. (v : ℕ → Bool) → AllAgree self.new.nodes.keys v → Says node (lit_truth r v) v) }
         ensures gate { IfOk result (λ r. (v : ℕ → Bool) → GatesAgree self.new.nodes.keys v → GateSays node (lit_truth r v) v) }
@@ -65,12 +64,11 @@ impl Gates {
 
     /// The next variable, which no clause ties.
     pub fn input(&mut self) -> Result<Lit, NoMemory>
-        ensures grows { length self.old.nodes.keys ≤ length self.new.nodes.keys }
+        ensures later { IsLater self.old.nodes.keys self.new.nodes.keys }
         ensures owned { IfOk result (λ r. lit_reach r ≤ length self.new.nodes.keys) }
-        ensures earlier { (v : ℕ → Bool) → AllAgree self.new.nodes.keys v → AllAgree self.old.nodes.keys v }
-        ensures free { free_count self.new.nodes.keys ≡ free_count self.old.nodes.keys }
         ensures next { IfOk result (λ r. r ≡ Lit.Var (pos (length self.old.nodes.keys + 1))) }
         ensures held { OnOk result (self.new.nodes.keys ≡ self.old.nodes.keys ++ Node.Input (length self.old.nodes.keys) ∷ []) }
+        ensures stands { OnOk result (IsInput self.new.nodes.keys (length self.old.nodes.keys)) }
     {
         if self.nodes.len() >= 0x7FFF_FFFF {
             return Err(NoMemory);
@@ -84,9 +82,7 @@ impl Gates {
     pub fn and_gate(&mut self, b: Lit, c: Lit) -> Result<Lit, NoMemory>
         requires b_owned { lit_reach b ≤ length self.old.nodes.keys }
         requires c_owned { lit_reach c ≤ length self.old.nodes.keys }
-        ensures grows { length self.old.nodes.keys ≤ length self.new.nodes.keys }
-        ensures earlier { (v : ℕ → Bool) → AllAgree self.new.nodes.keys v → AllAgree self.old.nodes.keys v }
-        ensures free { free_count self.new.nodes.keys ≡ free_count self.old.nodes.keys }
+        ensures later { IsLater self.old.nodes.keys self.new.nodes.keys }
         ensures owned { IfOk result (λ r. lit_reach r ≤ length self.new.nodes.keys) }
         ensures means { IfOk result (λ r. (v : ℕ → Bool) → AllAgree self.new.nodes.keys v → lit_truth r v ≡ lit_truth b v && lit_truth c v) }
         ensures made { IfOk result (λ r. r ≡ (and_made ⟦<Node as PartialEq>⟧.eq self.old.nodes.keys b c).flag) }
@@ -116,10 +112,8 @@ impl Gates {
     pub fn xor_gate(&mut self, b: Lit, c: Lit) -> Result<Lit, NoMemory>
         requires b_owned { lit_reach b ≤ length self.old.nodes.keys }
         requires c_owned { lit_reach c ≤ length self.old.nodes.keys }
-        ensures grows { length self.old.nodes.keys ≤ length self.new.nodes.keys }
-        ensures earlier { (v : ℕ → Bool) → AllAgree self.new.nodes.keys v → AllAgree self.old.nodes.keys v }
+        ensures later { IsLater self.old.nodes.keys self.new.nodes.keys }
         ensures gates { (v : ℕ → Bool) → GatesAgree self.new.nodes.keys v → GatesAgree self.old.nodes.keys v }
-        ensures free { free_count self.new.nodes.keys ≡ free_count self.old.nodes.keys }
         ensures owned { IfOk result (λ r. lit_reach r ≤ length self.new.nodes.keys) }
         ensures means { IfOk result (λ r. (v : ℕ → Bool) → AllAgree self.new.nodes.keys v → lit_truth r v ≡ not (same (lit_truth b v) (lit_truth c v))) }
         ensures gate { IfOk result (λ r. (v : ℕ → Bool) → GatesAgree self.new.nodes.keys v → lit_truth r v ≡ not (same (lit_truth b v) (lit_truth c v))) }
@@ -148,10 +142,8 @@ impl Gates {
     fn xor_signed(&mut self, x: i32, y: i32) -> Result<Lit, NoMemory>
         requires x_owned { signed_reach x ≤ length self.old.nodes.keys }
         requires y_owned { signed_reach y ≤ length self.old.nodes.keys }
-        ensures grows { length self.old.nodes.keys ≤ length self.new.nodes.keys }
-        ensures earlier { (v : ℕ → Bool) → AllAgree self.new.nodes.keys v → AllAgree self.old.nodes.keys v }
+        ensures later { IsLater self.old.nodes.keys self.new.nodes.keys }
         ensures gates { (v : ℕ → Bool) → GatesAgree self.new.nodes.keys v → GatesAgree self.old.nodes.keys v }
-        ensures free { free_count self.new.nodes.keys ≡ free_count self.old.nodes.keys }
         ensures owned { IfOk result (λ r. lit_reach r ≤ length self.new.nodes.keys) }
         ensures means { IfOk result (λ r. (v : ℕ → Bool) → AllAgree self.new.nodes.keys v → lit_truth r v ≡ not (same (literal_truth x v) (literal_truth y v))) }
         ensures gate { IfOk result (λ r. (v : ℕ → Bool) → GatesAgree self.new.nodes.keys v → lit_truth r v ≡ not (same (literal_truth x v) (literal_truth y v))) }
@@ -166,10 +158,8 @@ impl Gates {
     fn xor_node(&mut self, x: i32, y: i32) -> Result<Lit, NoMemory>
         requires x_owned { signed_reach x ≤ length self.old.nodes.keys }
         requires y_owned { signed_reach y ≤ length self.old.nodes.keys }
-        ensures grows { length self.old.nodes.keys ≤ length self.new.nodes.keys }
-        ensures earlier { (v : ℕ → Bool) → AllAgree self.new.nodes.keys v → AllAgree self.old.nodes.keys v }
+        ensures later { IsLater self.old.nodes.keys self.new.nodes.keys }
         ensures gates { (v : ℕ → Bool) → GatesAgree self.new.nodes.keys v → GatesAgree self.old.nodes.keys v }
-        ensures free { free_count self.new.nodes.keys ≡ free_count self.old.nodes.keys }
         ensures owned { IfOk result (λ r. lit_reach r ≤ length self.new.nodes.keys) }
         ensures means { IfOk result (λ r. (v : ℕ → Bool) → AllAgree self.new.nodes.keys v → lit_truth r v ≡ not (same (literal_truth x v) (literal_truth y v))) }
         ensures gate { IfOk result (λ r. (v : ℕ → Bool) → GatesAgree self.new.nodes.keys v → lit_truth r v ≡ not (same (literal_truth x v) (literal_truth y v))) }

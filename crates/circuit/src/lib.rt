@@ -17,3 +17,4 @@ mod words;
 pub use gates::Gates;
 pub use laws::{inputs_extend, one_formula, one_of_each, untied};
 pub use literals::Lit;
+pub use nodes::Node;

@@ -5,7 +5,8 @@ ghost use Rattle.std.specs.List.{All, list_any, filter_map};
 ghost use Rattle.word_kit.specs.Formulas.{IsFormula};
 ghost use Rattle.circuit.specs.Literals.{lit_truth, lit_reach, signed_reach, is_true, signed_variable};
 ghost use Rattle.circuit.specs.WordsMade.{at};
-ghost use Rattle.circuit.specs.Nodes.{AllAgree, free_count};
+ghost use Rattle.circuit.specs.Nodes.{};
+ghost use Rattle.circuit.specs.Frame.{IsLater};
 ghost use Rattle.circuit.specs.Extensions.{GatesAgree};
 ghost use Rattle.circuit.specs.Clauses.{AreClausesFor};
 ghost use Rattle.circuit.specs.Miters.{differences_made, pair_at, differs, AreOwned, CanDiffer, final_clause, IsSatisfiable};
@@ -52,10 +53,8 @@ impl Gates {
     /// The Xor of each pair, in order.
     fn differences(&mut self, alloc: Global, pairs: &[(Lit, Lit)]) -> Result<Vec<Lit>, NoMemory>
         requires owned { AreOwned (length self.old.nodes.keys) pairs.now }
-        ensures grows { length self.old.nodes.keys ≤ length self.new.nodes.keys }
-        ensures earlier { (v : ℕ → Bool) → AllAgree self.new.nodes.keys v → AllAgree self.old.nodes.keys v }
+        ensures later { IsLater self.old.nodes.keys self.new.nodes.keys }
         ensures gates { (v : ℕ → Bool) → GatesAgree self.new.nodes.keys v → GatesAgree self.old.nodes.keys v }
-        ensures free { free_count self.new.nodes.keys ≡ free_count self.old.nodes.keys }
         ensures owned { IfOk result (λ r. (k : ℕ) → k < length pairs.now → lit_reach (at r.items k) ≤ length self.new.nodes.keys) }
         ensures count { IfOk result (λ r. length r.items ≡ length pairs.now) }
         ensures means { IfOk result (λ r. (v : ℕ → Bool) → GatesAgree self.new.nodes.keys v → (k : ℕ) → k < length pairs.now → lit_truth (at r.items k) v ≡ differs v (pair_at pairs.now k)) }
@@ -99,10 +98,8 @@ impl Gates {
     /// divisions are free here. Xors that are not there yet are made.
     pub fn miter(&mut self, alloc: Global, pairs: &[(Lit, Lit)]) -> Result<Formula, NoMemory>
         requires owned { AreOwned (length self.old.nodes.keys) pairs.now }
-        ensures grows { length self.old.nodes.keys ≤ length self.new.nodes.keys }
-        ensures earlier { (v : ℕ → Bool) → AllAgree self.new.nodes.keys v → AllAgree self.old.nodes.keys v }
+        ensures later { IsLater self.old.nodes.keys self.new.nodes.keys }
         ensures gates { (v : ℕ → Bool) → GatesAgree self.new.nodes.keys v → GatesAgree self.old.nodes.keys v }
-        ensures free { free_count self.new.nodes.keys ≡ free_count self.old.nodes.keys }
         ensures held { OnOk result (self.new.nodes.keys ≡ (differences_made ⟦<Node as PartialEq>⟧.eq self.old.nodes.keys pairs.now).held) }
         ensures variables { IfOk result (λ f. f.variables ≡ length self.new.nodes.keys) }
         ensures clauses { IfOk result (λ f. AreClausesFor self.new.nodes.keys (final_clause (differences_made ⟦<Node as PartialEq>⟧.eq self.old.nodes.keys pairs.now).word) f.clauses) }

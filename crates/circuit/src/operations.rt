@@ -1,13 +1,14 @@
 //! Shifts, orders, products and divisions of words.
 
-ghost use Rattle.std.specs.Prelude.{true, false, ◌≡◌, ◌≤◌, ◌<◌, ◌^◌, ◌+◌, ℕ, Bool, IfOk, OnOk, cond, not, length};
+ghost use Rattle.std.specs.Prelude.{false, ◌≡◌, ◌≤◌, ◌<◌, ◌^◌, ℕ, Bool, IfOk, OnOk, cond, length};
 ghost use Rattle.word_kit.specs.Words.{is_less};
 ghost use Rattle.word_kit.specs.Products.{product_low, product_high};
 ghost use Rattle.circuit.specs.Literals.{lit_truth, lit_reach, word_value, word_reach_below};
 ghost use Rattle.circuit.specs.Turns.{turned_word};
 ghost use Rattle.circuit.specs.Sharing.{IsApart};
-ghost use Rattle.circuit.specs.Nodes.{AllAgree, free_count, free_value, free_reach};
-ghost use Rattle.circuit.specs.WordsMade.{at, word_of, not_bits, top_flipped, stage_made, shift_made, less_made, low_word, high_word, moved_by};
+ghost use Rattle.circuit.specs.Nodes.{AllAgree, free_value, free_reach};
+ghost use Rattle.circuit.specs.Frame.{IsLater};
+ghost use Rattle.circuit.specs.WordsMade.{at, top_flipped, stage_made, shift_made, less_made, low_word, high_word, moved_by};
 
 use crate::gates::Gates;
 use crate::literals::Lit;
@@ -56,9 +57,7 @@ impl Gates {
         requires within { stage < 5 }
         requires x_owned { word_reach_below 32 x ≤ length self.old.nodes.keys }
         requires by_owned { word_reach_below 32 by ≤ length self.old.nodes.keys }
-        ensures grows { length self.old.nodes.keys ≤ length self.new.nodes.keys }
-        ensures earlier { (v : ℕ → Bool) → AllAgree self.new.nodes.keys v → AllAgree self.old.nodes.keys v }
-        ensures free { free_count self.new.nodes.keys ≡ free_count self.old.nodes.keys }
+        ensures later { IsLater self.old.nodes.keys self.new.nodes.keys }
         ensures owned { IfOk result (λ r. word_reach_below 32 r ≤ length self.new.nodes.keys) }
         ensures means { IfOk result (λ r. (v : ℕ → Bool) → AllAgree self.new.nodes.keys v → (k : ℕ) → k < 32 → lit_truth (at r k) v ≡ cond (lit_truth (at by stage) v) (moved_by false turn (2 ^ stage) (λ j. lit_truth (at x j) v) k) (lit_truth (at x k) v)) }
         ensures made { IfOk result (λ r. r ≡ (stage_made ⟦<Node as PartialEq>⟧.eq turn stage self.old.nodes.keys x by).word) }
@@ -73,9 +72,7 @@ impl Gates {
     pub fn shift(&mut self, turn: Turn, x: [Lit; 32], by: [Lit; 32]) -> Result<[Lit; 32], NoMemory>
         requires x_owned { word_reach_below 32 x ≤ length self.old.nodes.keys }
         requires by_owned { word_reach_below 32 by ≤ length self.old.nodes.keys }
-        ensures grows { length self.old.nodes.keys ≤ length self.new.nodes.keys }
-        ensures earlier { (v : ℕ → Bool) → AllAgree self.new.nodes.keys v → AllAgree self.old.nodes.keys v }
-        ensures free { free_count self.new.nodes.keys ≡ free_count self.old.nodes.keys }
+        ensures later { IsLater self.old.nodes.keys self.new.nodes.keys }
         ensures owned { IfOk result (λ r. word_reach_below 32 r ≤ length self.new.nodes.keys) }
         ensures means { IfOk result (λ r. (v : ℕ → Bool) → AllAgree self.new.nodes.keys v → word_value 32 r v ≡ turned_word turn (word_value 32 x v) (word_value 32 by v)) }
         ensures made { IfOk result (λ r. r ≡ (shift_made ⟦<Node as PartialEq>⟧.eq turn 5 self.old.nodes.keys x by).word) }
@@ -93,9 +90,7 @@ impl Gates {
     pub fn below(&mut self, x: [Lit; 32], y: [Lit; 32], signed: bool) -> Result<Lit, NoMemory>
         requires x_owned { word_reach_below 32 x ≤ length self.old.nodes.keys }
         requires y_owned { word_reach_below 32 y ≤ length self.old.nodes.keys }
-        ensures grows { length self.old.nodes.keys ≤ length self.new.nodes.keys }
-        ensures earlier { (v : ℕ → Bool) → AllAgree self.new.nodes.keys v → AllAgree self.old.nodes.keys v }
-        ensures free { free_count self.new.nodes.keys ≡ free_count self.old.nodes.keys }
+        ensures later { IsLater self.old.nodes.keys self.new.nodes.keys }
         ensures owned { IfOk result (λ r. lit_reach r ≤ length self.new.nodes.keys) }
         ensures means { IfOk result (λ r. (v : ℕ → Bool) → AllAgree self.new.nodes.keys v → lit_truth r v ≡ is_less (word_value 32 x v) (word_value 32 y v) signed) }
         ensures made { IfOk result (λ r. r ≡ (less_made ⟦<Node as PartialEq>⟧.eq self.old.nodes.keys x y signed).flag) }

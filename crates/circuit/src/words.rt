@@ -1,11 +1,12 @@
 //! Words made of gates, bit by bit.
 
-ghost use Rattle.std.specs.Prelude.{◌≡◌, ◌≤◌, ◌<◌, ◌+◌, ◌*◌, ◌^◌, ℕ, Bool, IfOk, OnOk, not, ◌&&◌, ◌||◌, cond, eqb, length};
-ghost use Rattle.word_kit.specs.Words.{same, one_if};
+ghost use Rattle.std.specs.Prelude.{◌≡◌, ◌≤◌, ◌<◌, ◌+◌, ◌*◌, ◌^◌, ℕ, Bool, IfOk, OnOk, eqb, length};
+ghost use Rattle.word_kit.specs.Words.{one_if};
 ghost use Rattle.word_kit.specs.Bits.{bit_of};
 ghost use Rattle.circuit.specs.Literals.{lit_truth, lit_reach, word_value, word_reach_below};
 ghost use Rattle.circuit.specs.Sharing.{IsApart};
-ghost use Rattle.circuit.specs.Nodes.{AllAgree, free_count, free_value, free_reach};
+ghost use Rattle.circuit.specs.Nodes.{AllAgree, free_value, free_reach};
+ghost use Rattle.circuit.specs.Frame.{IsLater, MayUntie};
 ghost use Rattle.circuit.specs.WordsMade.{at, gate_made, bitwise_made, free_made, sum_made, equal_made};
 ghost use Rattle.circuit.specs.BitGates.{gate_truth, gate_reach};
 
@@ -30,9 +31,7 @@ impl Gates {
         requires op_owned { gate_reach op ≤ length self.old.nodes.keys }
         requires x_owned { lit_reach x ≤ length self.old.nodes.keys }
         requires y_owned { lit_reach y ≤ length self.old.nodes.keys }
-        ensures grows { length self.old.nodes.keys ≤ length self.new.nodes.keys }
-        ensures earlier { (v : ℕ → Bool) → AllAgree self.new.nodes.keys v → AllAgree self.old.nodes.keys v }
-        ensures free { free_count self.new.nodes.keys ≡ free_count self.old.nodes.keys }
+        ensures later { IsLater self.old.nodes.keys self.new.nodes.keys }
         ensures owned { IfOk result (λ r. lit_reach r ≤ length self.new.nodes.keys) }
         ensures means { IfOk result (λ r. (v : ℕ → Bool) → AllAgree self.new.nodes.keys v → lit_truth r v ≡ gate_truth op v (lit_truth x v) (lit_truth y v)) }
         ensures made { IfOk result (λ r. r ≡ (gate_made ⟦<Node as PartialEq>⟧.eq op self.old.nodes.keys x y).flag) }
@@ -56,9 +55,7 @@ impl Gates {
         requires op_owned { gate_reach op ≤ length self.old.nodes.keys }
         requires x_owned { word_reach_below 32 x ≤ length self.old.nodes.keys }
         requires y_owned { word_reach_below 32 y ≤ length self.old.nodes.keys }
-        ensures grows { length self.old.nodes.keys ≤ length self.new.nodes.keys }
-        ensures earlier { (v : ℕ → Bool) → AllAgree self.new.nodes.keys v → AllAgree self.old.nodes.keys v }
-        ensures free { free_count self.new.nodes.keys ≡ free_count self.old.nodes.keys }
+        ensures later { IsLater self.old.nodes.keys self.new.nodes.keys }
         ensures owned { IfOk result (λ r. word_reach_below 32 r ≤ length self.new.nodes.keys) }
         ensures means { IfOk result (λ r. (v : ℕ → Bool) → AllAgree self.new.nodes.keys v → (k : ℕ) → k < 32 → lit_truth (at r k) v ≡ gate_truth op v (lit_truth (at x k) v) (lit_truth (at y k) v)) }
         ensures made { IfOk result (λ r. r ≡ (bitwise_made ⟦<Node as PartialEq>⟧.eq op self.old.nodes.keys x y).word) }
@@ -76,9 +73,7 @@ impl Gates {
     pub fn free_word(&mut self, word: FreeWord) -> Result<[Lit; 32], NoMemory>
         requires owned { free_reach word ≤ length self.old.nodes.keys }
         requires apart { IsApart self.old.nodes.keys (Node.Free word 0) }
-        ensures grows { length self.old.nodes.keys ≤ length self.new.nodes.keys }
-        ensures earlier { (v : ℕ → Bool) → AllAgree self.new.nodes.keys v → AllAgree self.old.nodes.keys v }
-        ensures counts { free_count self.old.nodes.keys ≤ free_count self.new.nodes.keys }
+        ensures later { MayUntie self.old.nodes.keys self.new.nodes.keys }
         ensures owned { IfOk result (λ r. word_reach_below 32 r ≤ length self.new.nodes.keys) }
         ensures means { IfOk result (λ r. (v : ℕ → Bool) → AllAgree self.new.nodes.keys v → (k : ℕ) → k < 32 → lit_truth (at r k) v ≡ bit_of (free_value word v) k) }
         ensures made { IfOk result (λ r. r ≡ (free_made ⟦<Node as PartialEq>⟧.eq self.old.nodes.keys word).word) }
@@ -102,9 +97,7 @@ impl Gates {
         requires x_owned { word_reach_below 32 x ≤ length self.old.nodes.keys }
         requires y_owned { word_reach_below 32 y ≤ length self.old.nodes.keys }
         requires carry_owned { lit_reach carry ≤ length self.old.nodes.keys }
-        ensures grows { length self.old.nodes.keys ≤ length self.new.nodes.keys }
-        ensures earlier { (v : ℕ → Bool) → AllAgree self.new.nodes.keys v → AllAgree self.old.nodes.keys v }
-        ensures free { free_count self.new.nodes.keys ≡ free_count self.old.nodes.keys }
+        ensures later { IsLater self.old.nodes.keys self.new.nodes.keys }
         ensures sum_owned { IfOk result (λ r. word_reach_below 32 r.0 ≤ length self.new.nodes.keys) }
         ensures carry_owned { IfOk result (λ r. lit_reach r.1 ≤ length self.new.nodes.keys) }
         ensures means { IfOk result (λ r. (v : ℕ → Bool) → AllAgree self.new.nodes.keys v → word_value 32 r.0 v + one_if (lit_truth r.1 v) * 2 ^ 32 ≡ word_value 32 x v + word_value 32 y v + one_if (lit_truth carry v)) }
@@ -126,9 +119,7 @@ impl Gates {
     pub fn equality(&mut self, x: [Lit; 32], y: [Lit; 32]) -> Result<Lit, NoMemory>
         requires x_owned { word_reach_below 32 x ≤ length self.old.nodes.keys }
         requires y_owned { word_reach_below 32 y ≤ length self.old.nodes.keys }
-        ensures grows { length self.old.nodes.keys ≤ length self.new.nodes.keys }
-        ensures earlier { (v : ℕ → Bool) → AllAgree self.new.nodes.keys v → AllAgree self.old.nodes.keys v }
-        ensures free { free_count self.new.nodes.keys ≡ free_count self.old.nodes.keys }
+        ensures later { IsLater self.old.nodes.keys self.new.nodes.keys }
         ensures owned { IfOk result (λ r. lit_reach r ≤ length self.new.nodes.keys) }
         ensures means { IfOk result (λ r. (v : ℕ → Bool) → AllAgree self.new.nodes.keys v → lit_truth r v ≡ eqb (word_value 32 x v) (word_value 32 y v)) }
         ensures made { IfOk result (λ r. r ≡ (equal_made ⟦<Node as PartialEq>⟧.eq 32 self.old.nodes.keys x y).flag) }

@@ -1,4 +1,5 @@
-use Rattle.std.proofs.Common.{rules, refl, ◌∙◌, ap, ◌≡◌, ◌<◌, length, arith, length-set}
+use Rattle.std.proofs.Common.{rules, ◌∙◌, ap, ◌≡◌, ◌<◌, length, arith, length-set}
+use Rattle.word_kit.proofs.Later.{later-refl, later-trans}
 use Rattle.circuit.specs.Literals.{lit_truth}
 use Rattle.circuit.specs.BitGates.{gate_truth}
 use Rattle.circuit.specs.WordsMade.{at, gate_made, word_made}
@@ -16,9 +17,7 @@ pub loop-i-init : goal.loop-i-init
 loop-i-init c = record {
   made = word_stands-zero (λ h k. gate_made ghosts.eq c.args.op h (at c.args.x k) (at c.args.y k)) _ _;
   wide = search rules;
-  grows = omega arith;
-  earlier = λ v h. h;
-  free = refl;
+  later = later-refl _;
   owned = rw (word_reach-zero c.args.x) (omega arith);
   means = λ v h k l. absurd (omega arith);
 }
@@ -29,12 +28,10 @@ loop-i-preserved c =
     record {
       made = word_stands-suc (λ h k. gate_made ghosts.eq c.args.op h (at c.args.x k) (at c.args.y k)) c.loop-i.i _ c.loop-i.out _ c.in_ok-bit.bit _ inside c.loop-i.invariant.made c.in_ok-bit.ensures.made c.in_ok-bit.ensures.held;
       wide = omega (arith, length-set c.loop-i.out c.loop-i.i c.in_ok-bit.bit);
-      grows = omega arith;
-      earlier = λ v h. c.loop-i.invariant.earlier v (c.in_ok-bit.ensures.earlier v h);
-      free = c.in_ok-bit.ensures.free ∙ c.loop-i.invariant.free;
+      later = later-trans _ _ _ c.loop-i.invariant.later c.in_ok-bit.ensures.later;
       owned = reach_step c.loop-i.i c.loop-i.out c.in_ok-bit.bit _ inside (omega arith) c.in_ok-bit.ensures.owned;
       means = λ v h. bits_step (λ k. gate_truth c.args.op v (lit_truth (at c.args.x k) v) (lit_truth (at c.args.y k) v)) c.loop-i.i c.loop-i.out c.in_ok-bit.bit v inside
-          (c.loop-i.invariant.means v (c.in_ok-bit.ensures.earlier v h)) (c.in_ok-bit.ensures.means v h);
+          (c.loop-i.invariant.means v (c.in_ok-bit.ensures.later.earlier v h)) (c.in_ok-bit.ensures.means v h);
     }
 
 pub returns-clause-made : goal.returns-clause-made

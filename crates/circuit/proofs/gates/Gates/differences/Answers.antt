@@ -1,4 +1,5 @@
-use Rattle.std.proofs.Common.{◌≡◌, ◌∙◌, refl, ap, ◌≤◌, arith, length}
+use Rattle.std.proofs.Common.{◌≡◌, ◌∙◌, ap, ◌≤◌, arith, length}
+use Rattle.word_kit.proofs.Later.{later-refl, later-trans}
 use Rattle.circuit.specs.Literals.{lit_truth, lit_reach}
 use Rattle.circuit.specs.Made.{xor_made}
 use Rattle.circuit.specs.WordsMade.{word_made}
@@ -17,10 +18,8 @@ pub loop-i-init : goal.loop-i-init
 loop-i-init c = let e = c.new-out.ensures.items in record {
   made = list_stands-new (λ h k. xor_made ghosts.eq h (pair_at c.args.pairs.now k).0 (pair_at c.args.pairs.now k).1) _ _ e;
   count = ap length e;
-  grows = omega arith;
-  earlier = λ v h. h;
+  later = later-refl _;
   gates = λ v h. h;
-  free = refl;
   owned = λ k l. absurd (omega arith);
   means = λ v h k l. absurd (omega arith);
 }
@@ -29,11 +28,9 @@ pub loop-i-preserved : goal.loop-i-preserved
 loop-i-preserved c = let e = c.in_ok-push.ensures.items in record {
   made = list_stands-push (λ h k. xor_made ghosts.eq h (pair_at c.args.pairs.now k).0 (pair_at c.args.pairs.now k).1) c.loop-i.i _ c.loop-i.out.items _ c.in_ok-bit.bit _ _ e c.loop-i.invariant.made c.in_ok-bit.ensures.made c.in_ok-bit.ensures.held;
   count = longer c.loop-i.i c.loop-i.out.items c.in_ok-bit.bit _ e c.loop-i.invariant.count;
-  grows = omega arith;
-  earlier = λ v h. c.loop-i.invariant.earlier v (c.in_ok-bit.ensures.earlier v h);
+  later = later-trans _ _ _ c.loop-i.invariant.later c.in_ok-bit.ensures.later;
   gates = λ v h. c.loop-i.invariant.gates v (c.in_ok-bit.ensures.gates v h);
-  free = c.in_ok-bit.ensures.free ∙ c.loop-i.invariant.free;
-  owned = pushed_items (λ k l. lit_reach l ≤ length c.xor_gate.new.self.nodes.keys) c.loop-i.i c.loop-i.out.items c.in_ok-bit.bit _ e c.loop-i.invariant.count (λ k l. let r = c.loop-i.invariant.owned k l in omega (arith, r, c.in_ok-bit.ensures.grows)) c.in_ok-bit.ensures.owned;
+  owned = pushed_items (λ k l. lit_reach l ≤ length c.xor_gate.new.self.nodes.keys) c.loop-i.i c.loop-i.out.items c.in_ok-bit.bit _ e c.loop-i.invariant.count (λ k l. let r = c.loop-i.invariant.owned k l in omega (arith, r, c.in_ok-bit.ensures.later.grows)) c.in_ok-bit.ensures.owned;
   means = λ v h. pushed_items (λ k l. lit_truth l v ≡ differs v (pair_at c.args.pairs.now k)) c.loop-i.i c.loop-i.out.items c.in_ok-bit.bit _ e c.loop-i.invariant.count
       (c.loop-i.invariant.means v (c.in_ok-bit.ensures.gates v h)) (c.in_ok-bit.ensures.gate v h);
 }

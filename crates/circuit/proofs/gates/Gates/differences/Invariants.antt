@@ -1,10 +1,10 @@
 use Rattle.std.proofs.Common.{◌≡◌, ℕ, ◌<◌, ◌≤◌, Bool, length}
 use Rattle.circuit.specs.Literals.{lit_truth, lit_reach}
-use Rattle.circuit.specs.Nodes.{AllAgree, free_count}
 use Rattle.circuit.specs.Extensions.{GatesAgree}
 use Rattle.circuit.specs.Made.{xor_made}
 use Rattle.circuit.specs.WordsMade.{at}
 use Rattle.circuit.specs.Miters.{pair_at, differs}
+use Rattle.circuit.specs.Frame.{IsLater}
 use Rattle.circuit.specs.contracts.nodes.NodePartialEq.TheImpl.{ghosts}
 use Rattle.circuit.proofs.Pushed.{ListStands}
 use Rattle.circuit.proofs.gates.Gates.differences.Given as goal
@@ -13,10 +13,8 @@ abbrev pub invariant-loop-i : goal.invariant-loop-i
 invariant-loop-i l = record {
   made : ListStands (λ h k. xor_made ghosts.eq h (pair_at l.pairs k).0 (pair_at l.pairs k).1) l.i l.fn.self.nodes.keys l.out.items l.self.nodes.keys;
   count : length l.out.items ≡ l.i;
-  grows : length l.fn.self.nodes.keys ≤ length l.self.nodes.keys;
-  earlier : (v : ℕ → Bool) → AllAgree l.self.nodes.keys v → AllAgree l.fn.self.nodes.keys v;
+  later : IsLater l.fn.self.nodes.keys l.self.nodes.keys;
   gates : (v : ℕ → Bool) → GatesAgree l.self.nodes.keys v → GatesAgree l.fn.self.nodes.keys v;
-  free : free_count l.self.nodes.keys ≡ free_count l.fn.self.nodes.keys;
   owned : (k : ℕ) → k < l.i → lit_reach (at l.out.items k) ≤ length l.self.nodes.keys;
   means : (v : ℕ → Bool) → GatesAgree l.self.nodes.keys v → (k : ℕ) → k < l.i → lit_truth (at l.out.items k) v ≡ differs v (pair_at l.pairs k);
 }

@@ -1,5 +1,6 @@
 use Rattle.std.proofs.Common.{rules, ◌∙◌, ap, ◌≡◌, ◌<◌, length, arith, length-set}
 use Rattle.word_kit.specs.Bits.{bit_of}
+use Rattle.word_kit.proofs.Later.{untie-refl, untie-trans}
 use Rattle.circuit.specs.Nodes.{free_value}
 use Rattle.circuit.specs.Made.{node_made}
 use Rattle.circuit.specs.WordsMade.{word_made}
@@ -13,9 +14,7 @@ pub loop-i-init : goal.loop-i-init
 loop-i-init c = record {
   made = word_stands-zero (λ h k. node_made ghosts.eq h (Free c.args.word k)) _ _;
   wide = search rules;
-  grows = omega arith;
-  earlier = λ v h. h;
-  counts = omega arith;
+  later = untie-refl _;
   owned = rw (word_reach-zero _) (omega arith);
   apart = c.requires.apart;
   begun = λ l. absurd (omega arith);
@@ -34,14 +33,12 @@ loop-i-preserved c =
     record {
       made = word_stands-suc (λ h k. node_made ghosts.eq h (Free c.args.word k)) c.loop-i.i _ c.loop-i.out _ c.in_ok-bit.bit _ inside c.loop-i.invariant.made c.in_ok-bit.ensures.made c.in_ok-bit.ensures.held;
       wide = omega (arith, length-set c.loop-i.out c.loop-i.i c.in_ok-bit.bit);
-      grows = omega arith;
-      earlier = λ v h. c.loop-i.invariant.earlier v (c.in_ok-bit.ensures.earlier v h);
-      counts = omega (arith, c.in_ok-bit.ensures.counts);
+      later = untie-trans _ _ _ c.loop-i.invariant.later c.in_ok-bit.ensures.later;
       owned = reach_step c.loop-i.i c.loop-i.out c.in_ok-bit.bit _ inside (omega arith) c.in_ok-bit.ensures.owned;
       apart = word_apart _ _ c.args.word c.loop-i.i (made_node _ _ _ c.in_ok-bit.ensures.held) c.loop-i.invariant.apart;
       begun = λ l. word_begun _ _ c.args.word c.loop-i.i (made_node _ _ _ c.in_ok-bit.ensures.held) c.loop-i.invariant.begun;
       means = λ v h. bits_step (λ k. bit_of (free_value c.args.word v) k) c.loop-i.i c.loop-i.out c.in_ok-bit.bit v inside
-          (c.loop-i.invariant.means v (c.in_ok-bit.ensures.earlier v h)) (c.in_ok-bit.ensures.means v h);
+          (c.loop-i.invariant.means v (c.in_ok-bit.ensures.later.earlier v h)) (c.in_ok-bit.ensures.means v h);
     }
 
 pub returns-clause-made : goal.returns-clause-made

@@ -1,10 +1,11 @@
 use Rattle.std.proofs.Common.{◌≡◌, ℕ, ◌<◌, ◌≤◌, Bool, length}
 use Rattle.word_kit.specs.Bits.{bit_of}
 use Rattle.circuit.specs.Literals.{lit_truth, word_reach_below}
-use Rattle.circuit.specs.Nodes.{AllAgree, free_count, free_value}
+use Rattle.circuit.specs.Nodes.{AllAgree, free_value}
 use Rattle.circuit.specs.Sharing.{IsApart, IsThere}
 use Rattle.circuit.specs.Made.{node_made}
 use Rattle.circuit.specs.WordsMade.{at}
+use Rattle.circuit.specs.Frame.{MayUntie}
 use Rattle.circuit.specs.contracts.nodes.NodePartialEq.TheImpl.{ghosts}
 use Rattle.circuit.specs.declared.nodes.Node.TheVariants.{Free}
 use Rattle.circuit.proofs.Values.{WordStands}
@@ -14,9 +15,7 @@ abbrev pub invariant-loop-i : goal.invariant-loop-i
 invariant-loop-i l = record {
   made : WordStands (λ h k. node_made ghosts.eq h (Free l.word k)) l.i l.fn.self.nodes.keys l.out l.self.nodes.keys;
   wide : length l.out ≡ 32;
-  grows : length l.fn.self.nodes.keys ≤ length l.self.nodes.keys;
-  earlier : (v : ℕ → Bool) → AllAgree l.self.nodes.keys v → AllAgree l.fn.self.nodes.keys v;
-  counts : free_count l.fn.self.nodes.keys ≤ free_count l.self.nodes.keys;
+  later : MayUntie l.fn.self.nodes.keys l.self.nodes.keys;
   owned : word_reach_below l.i l.out ≤ length l.self.nodes.keys;
   apart : IsApart l.self.nodes.keys (Free l.word 0);
   begun : 0 < l.i → IsThere l.self.nodes.keys (Free l.word 0);

@@ -40,7 +40,7 @@ returns-clause-satisfiable c =
       count = d.count;
       owned = d.owned;
       keeps = λ k m h. subst (λ ns. slice_get ns k ≡ Some m) (sym d.held) (grown_differences ghosts.eq c.args.self.now.nodes.keys c.args.pairs.now k m h);
-      grows = d.grows;
+      grows = d.later.grows;
       pairs_owned = c.requires.owned;
     })
     c.from.result

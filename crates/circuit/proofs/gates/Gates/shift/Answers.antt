@@ -1,4 +1,5 @@
-use Rattle.std.proofs.Common.{◌≡◌, ◌∙◌, refl, ap, arith}
+use Rattle.std.proofs.Common.{◌≡◌, ◌∙◌, ap, arith}
+use Rattle.word_kit.proofs.Later.{later-refl, later-trans}
 use Rattle.circuit.specs.Literals.{lit_truth}
 use Rattle.circuit.specs.WordsMade.{at, shift_made}
 use Rattle.circuit.specs.contracts.nodes.NodePartialEq.TheImpl.{ghosts}
@@ -10,9 +11,7 @@ pub loop-stage-init : goal.loop-stage-init
 loop-stage-init c = record {
   word_is = (shift_stands-zero ghosts.eq c.args.turn c.args.self.now.nodes.keys c.args.x c.args.by).0;
   held_is = (shift_stands-zero ghosts.eq c.args.turn c.args.self.now.nodes.keys c.args.x c.args.by).1;
-  grows = omega arith;
-  earlier = λ v h. h;
-  free = refl;
+  later = later-refl _;
   owned = c.requires.x_owned;
   means = λ v h k l. shift_none c.args.turn (λ j. lit_truth (at c.args.by j) v) (λ j. lit_truth (at c.args.x j) v) k l;
 }
@@ -23,12 +22,10 @@ loop-stage-preserved c =
     record {
       word_is = s.0;
       held_is = s.1;
-      grows = omega arith;
-      earlier = λ v h. c.loop-stage.invariant.earlier v (c.in_ok-next.ensures.earlier v h);
-      free = c.in_ok-next.ensures.free ∙ c.loop-stage.invariant.free;
+      later = later-trans _ _ _ c.loop-stage.invariant.later c.in_ok-next.ensures.later;
       owned = c.in_ok-next.ensures.owned;
       means = λ v h k l. c.in_ok-next.ensures.means v h k l ∙ stage c.args.turn (λ j. lit_truth (at c.args.by j) v) c.loop-stage.stage (λ j. lit_truth (at c.args.x j) v) (λ j. lit_truth (at c.loop-stage.out j) v) k (omega arith) l
-          (c.loop-stage.invariant.means v (c.in_ok-next.ensures.earlier v h));
+          (c.loop-stage.invariant.means v (c.in_ok-next.ensures.later.earlier v h));
     }
 
 pub returns-clause-means : goal.returns-clause-means

@@ -1,6 +1,6 @@
 use Rattle.std.proofs.Common.{ap}
 use Rattle.circuit.proofs.Same.{node_same, says_at, gate_says_at}
-use Rattle.circuit.proofs.Kept.{AllAgree-inserted, GatesAgree-inserted, ordered_either, counted}
+use Rattle.circuit.proofs.Kept.{later_inserted, GatesAgree-inserted, ordered_either, counted}
 use Rattle.circuit.proofs.Sharing.{shared_either}
 use Rattle.circuit.specs.Literals.{lit_truth}
 use Rattle.circuit.specs.Nodes.{AllAgree}
@@ -8,8 +8,8 @@ use Rattle.circuit.specs.Extensions.{GatesAgree}
 use Rattle.circuit.specs.contracts.nodes.NodePartialEq.TheImpl.{ghosts}
 use Rattle.circuit.proofs.gates.Gates.variable.Goals as goal
 
-pub returns-in-Ok-clause-earlier : goal.returns-in-Ok-clause-earlier
-returns-in-Ok-clause-earlier c v h = AllAgree-inserted ghosts.eq _ _ c.args.node v c.in-Ok.ensures.keys h
+pub returns-in-Ok-clause-later : goal.returns-in-Ok-clause-later
+returns-in-Ok-clause-later c = later_inserted ghosts.eq _ _ c.args.node c.in-Ok.ensures.keys
 
 pub returns-in-Ok-clause-means : goal.returns-in-Ok-clause-means
 unfolding AllAgree
@@ -22,9 +22,6 @@ invariant_of-self-clause-ordered c = ordered_either c.insert_full.result ghosts.
 
 pub returns-in-Ok-clause-free : goal.returns-in-Ok-clause-free
 returns-in-Ok-clause-free c = (counted ghosts.eq _ _ c.args.node c.in-Ok.ensures.keys).1
-
-pub returns-in-Ok-clause-counts : goal.returns-in-Ok-clause-counts
-returns-in-Ok-clause-counts c = (counted ghosts.eq _ _ c.args.node c.in-Ok.ensures.keys).0
 
 pub returns-in-Ok-clause-gates : goal.returns-in-Ok-clause-gates
 returns-in-Ok-clause-gates c v h = GatesAgree-inserted ghosts.eq _ _ c.args.node v c.in-Ok.ensures.keys h
