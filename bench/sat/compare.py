@@ -5,7 +5,8 @@
 
 Each time is the least of three runs' user seconds, reading the file included. minisat and cadical are Debian's packages.
 The second table gives `check` the logs that cadical wrote within so many conflicts, without deletions and preprocessing, beside
-what cadical's own checker adds to the time of such a run (--check=true)."""
+what cadical's own checker adds to the time of such a run (--check=true). That checker forgets clauses where cadical does, and `check`
+never does; in the last log of each formula cadical doesn't tidy its clauses up (--reduce=false)."""
 import glob
 import os
 import re
@@ -41,20 +42,22 @@ def solvers(bench, formula):
         name, said.strip(), conflicts.group(1) if conflicts else "", ours, minisat, cadical, ratio))
 
 
-def checks(bench, formula, limits):
-    """Logs that cadical wrote within so many conflicts, and what its own checker adds to its time."""
+def checks(bench, formula, runs):
+    """Logs that cadical wrote with these options, and what its own checker adds to its time."""
     name = os.path.basename(formula)[:-4]
-    for limit in limits:
-        options = ["-q", "--plain", "-c", str(limit), formula]
+    for words in runs:
+        options = ["-q", "--plain", *words, formula]
         plain, _ = run("cadical", *options)
         checking, _ = run("cadical", "--check=true", *options)
         log = formula + ".log"
         subprocess.run(["cadical", "--no-binary", *options, log], stdout=subprocess.DEVNULL)
-        steps = [line for line in open(log) if not line.startswith("d")]
+        lines = open(log).readlines()
+        steps = [line for line in lines if not line.startswith("d")]
         open(log, "w").writelines(steps)
         ours, said = run(bench, "check", formula, log)
         theirs = max(checking - plain, 0.001)
-        print("| %s | %d | %s | %.3f | %.3f | %.1f |" % (name, len(steps), said.split()[0], ours, theirs, ours / theirs))
+        print("| %s | %d | %d | %s | %.3f | %.3f | %.1f |" % (
+            name, len(steps), len(lines) - len(steps), said.split()[0], ours, theirs, ours / theirs))
 
 
 def main():
@@ -65,12 +68,12 @@ def main():
     print("|---|---|---|---|---|---|---|")
     for formula in formulas:
         solvers(bench, formula)
-    print("\n| formula | steps | answer | check | cadical's checker | ours to cadical's |\n|---|---|---|---|---|---|")
+    print("\n| formula | steps | forgotten | answer | check | cadical's checker | ours to cadical's |\n|---|---|---|---|---|---|---|")
     with tempfile.TemporaryDirectory() as folder:
         for variables, count, seed in ((722, 10000, 26), (200, 880, 2)):
             formula = os.path.join(folder, "random-%d-%d" % (variables, seed))
             make_formulas.write(formula, make_formulas.random_clauses(variables, count, seed))
-            checks(bench, formula + ".cnf", (2000, 4000, 8000, 100000000))
+            checks(bench, formula + ".cnf", [["-c", "2000"], ["-c", "4000"], ["-c", "8000"], [], ["--reduce=false"]])
     print("\nload:", open("/proc/loadavg").read().strip())
 
 

@@ -1,5 +1,6 @@
 -- Literals are left out of a clause one after the other.
-use Rattle.std.proofs.Common.{◌≡◌, ◌≢◌, inl, inr, ℕ, ◌<◌, ◌≤◌, ◌+◌, Bool, true, false, List, [], ◌∷◌, ◌++◌, ℤ, length, take, sym, subst, ap, ◌∙◌, arith, pos, get_or}
+use Rattle.std.proofs.lemmas.List.Sorted.{IsPermutation-reverse, Contains-permutation}
+use Rattle.std.proofs.Common.{reverse, ◌≡◌, ◌≢◌, inl, inr, ℕ, ◌<◌, ◌≤◌, ◌+◌, Bool, true, false, List, [], ◌∷◌, ◌++◌, ℤ, length, take, sym, subst, ap, ◌∙◌, arith, pos, get_or}
 use Rattle.std.proofs.lemmas.List.{take_more}
 use Rattle.std.specs.List.{Contains}
 use Rattle.std.specs.Bool.{Decides}
@@ -18,8 +19,13 @@ pub record IsTightened (clauses : List (List ℤ)) (clause : List ℤ) (last : �
   pub within : AreWithin kept clause
   pub tried : (x : ℤ) → Contains done x → Contains kept x → x ≢ last → ¬ Follows clauses (without x kept)
 
-pub tightened-start : (clauses : List (List ℤ)) (clause : List ℤ) (last : ℤ) → IsGained clauses clause last → IsTightened clauses clause last [] clause
-tightened-start clauses clause last h = record { gained = h; within = λ x m. m; tried = λ x m. Contains-nil x m }
+pub tightened-start : (clauses : List (List ℤ)) (clause : List ℤ) (last : ℤ) → IsGained clauses clause last
+    → IsTightened clauses (reverse clause) last [] clause
+tightened-start clauses clause last h = record {
+  gained = h;
+  within = λ x m. Contains-permutation clause (reverse clause) x (IsPermutation-reverse clause) m;
+  tried = λ x m. Contains-nil x m;
+}
 
 -- this literal stays
 pub tightened-stays : (clauses : List (List ℤ)) (clause : List ℤ) (last : ℤ) (done kept : List ℤ) (literal : ℤ)

@@ -24,7 +24,8 @@ fn without(alloc: Global, clause: &[i32], literal: i32) -> Result<Vec<i32>, NoMe
     Ok(rest)
 }
 
-/// Leaves each literal but the last assumed one out of the clause for good where the rest still follows.
+/// Leaves each literal but the last assumed one out of the clause for good where the rest still follows. The literals that were
+/// assumed later are tried earlier.
 pub fn minimize(
     alloc: Global,
     propagator: &mut Propagator,
@@ -39,7 +40,9 @@ pub fn minimize(
     ensures ready { OnOk result ((known : List (List ℤ)) → IsReady known propagator.old → IsReady known propagator.new) }
 {
     let mut kept = Vec::from_slice(alloc, clause)?;
-    for literal in clause {
+    let mut candidates = Vec::from_slice(alloc, clause)?;
+    candidates.reverse();
+    for literal in &candidates {
         if *literal != last {
             let rest = without(alloc, kept.as_slice(), *literal)?;
             if propagator.follows(rest.as_slice())? {

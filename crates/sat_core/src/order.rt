@@ -7,7 +7,7 @@ use word_kit::NoMemory;
 const BUMP: u64 = 1 << 20;
 
 /// How many clauses are learned before older conflicts count half.
-const DECAY_INTERVAL: usize = 16;
+const DECAY_INTERVAL: usize = 40;
 
 /// The literal of a variable that is decided first, how much the variable was seen in conflicts of late, and whether it was
 /// since the variables were ranked.
@@ -19,9 +19,13 @@ struct Preference {
 }
 
 impl Preference {
-    /// Variables of less rank are decided first: those of a higher score, and of one score those of smaller numbers.
+    /// Variables of less rank are decided first: those of a higher score, and of one score those of greater numbers, since a
+    /// formula that is written gate by gate numbers what rests on other variables behind them.
     fn rank(&self) -> (u64, u32) {
-        (u64::MAX - self.score, self.literal.unsigned_abs())
+        (
+            u64::MAX - self.score,
+            u32::MAX - self.literal.unsigned_abs(),
+        )
     }
 }
 
@@ -46,12 +50,14 @@ impl Order {
         let mut literal = 0i32;
         for _ in 0..variables.min(i32::MAX as u32) {
             literal = literal.wrapping_sub(1);
-            ranked.push(index_of(literal))?;
             preferences.push(Preference {
                 score: 0,
                 literal,
                 is_seen: false,
             })?;
+        }
+        for index in (0..preferences.len()).rev() {
+            ranked.push(index)?;
         }
         Ok(Order {
             preferences,

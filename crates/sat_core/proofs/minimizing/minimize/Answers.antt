@@ -1,4 +1,4 @@
-use Rattle.std.proofs.Common.{[], pos, get_or, refl, sym, subst, ap, ◌∙◌, rules, w32, SFits, to_z, of_z}
+use Rattle.std.proofs.Common.{reverse, [], pos, get_or, refl, sym, subst, ap, ◌∙◌, rules, w32, SFits, to_z, of_z}
 use Rattle.std.specs.List.{All}
 use Rattle.std.proofs.lemmas.Int.{to_z-of_z}
 use Rattle.watched_literals.specs.Propagation.{without}
@@ -24,7 +24,8 @@ pub loop-literal-preserved : goal.loop-literal-preserved
 loop-literal-preserved c =
     let n = c.loop-literal.literal-index in
     let room = c.args.propagator.now.trail.room in
-    let z = get_or c.args.clause.now n (pos 0) in
+    let candidates = c.deref-literal-items.result.now in
+    let z = get_or candidates n (pos 0) in
     let f : SFits w32 z = search rules in
     let e = to_z-of_z w32 z f in
     let g : SFits w32 c.args.last = search rules in
@@ -36,7 +37,7 @@ loop-literal-preserved c =
             (all-within (IsWithin room) (without _ c.loop-literal.kept.items) c.loop-literal.kept.items (without-within _ c.loop-literal.kept.items) c.loop-literal.invariant.within);
         ready = λ known r. subst (IsReady known) (sym w.propagator-is) (w.in_ok-follows.ensures.ready known (c.loop-literal.invariant.ready known r));
         tightened = λ known r h.
-            tightened-next_out known c.args.clause.now _ n c.loop-literal.kept.items c.if-literal-last.kept.items w.in_ok-rest.rest.items
+            tightened-next_out known candidates _ n c.loop-literal.kept.items c.if-literal-last.kept.items w.in_ok-rest.rest.items
             w.as_slice-then-literal-last.result.now _ w.in_ok-follows.field-0 c.loop-literal-test.true e
             (λ s. w.if-literal-last.true (ap (of_z w32) (sym e ∙ s ∙ q))) (w.in_ok-rest.ensures ∙ ap (without _) w.as_slice.ensures.value)
             w.as_slice-then-literal-last.ensures.value (w.in_ok-follows.ensures.follows known (c.loop-literal.invariant.ready known r)) w.if-branch.true (ap (λ v. v.items) w.kept-is)
@@ -47,7 +48,7 @@ loop-literal-preserved c =
         within = subst (All (IsWithin room)) (sym (ap (λ v. v.items) w.kept-is)) c.loop-literal.invariant.within;
         ready = λ known r. subst (IsReady known) (sym w.propagator-is) (w.in_ok-follows.ensures.ready known (c.loop-literal.invariant.ready known r));
         tightened = λ known r h.
-            tightened-next_stays known c.args.clause.now _ n c.loop-literal.kept.items c.if-literal-last.kept.items w.in_ok-rest.rest.items
+            tightened-next_stays known candidates _ n c.loop-literal.kept.items c.if-literal-last.kept.items w.in_ok-rest.rest.items
             w.as_slice-then-literal-last.result.now _ w.in_ok-follows.field-0 c.loop-literal-test.true e
             (w.in_ok-rest.ensures ∙ ap (without _) w.as_slice.ensures.value)
             w.as_slice-then-literal-last.ensures.value (w.in_ok-follows.ensures.follows known (c.loop-literal.invariant.ready known r)) w.if-branch.false (ap (λ v. v.items) w.kept-is)
@@ -58,7 +59,7 @@ loop-literal-preserved c =
         within = subst (All (IsWithin room)) (sym (ap (λ v. v.items) w.kept-is)) c.loop-literal.invariant.within;
         ready = λ known r. subst (IsReady known) (sym w.propagator-is) (c.loop-literal.invariant.ready known r);
         tightened = λ known r h.
-            tightened-next_last known c.args.clause.now _ n c.loop-literal.kept.items c.if-literal-last.kept.items _ c.loop-literal-test.true e
+            tightened-next_last known candidates _ n c.loop-literal.kept.items c.if-literal-last.kept.items _ c.loop-literal-test.true e
             (ap (to_z w32) w.if-literal-last.false) (ap (λ v. v.items) w.kept-is) (c.loop-literal.invariant.tightened known r h);
       }
     ]
@@ -66,16 +67,19 @@ loop-literal-preserved c =
 pub returns-clause-lesson : goal.returns-clause-lesson
 returns-clause-lesson c = λ known r h.
     let g : SFits w32 c.args.last = search rules in
-    tightened-lesson known c.args.clause.now _ c.loop-literal.kept.items
-    (tightened-end known c.args.clause.now _ c.loop-literal.kept.items c.loop-literal.literal-index c.loop-literal-test.false c.loop-literal.auto.literal-index-end
+    tightened-lesson known c.deref-literal-items.result.now _ c.loop-literal.kept.items
+    (tightened-end known c.deref-literal-items.result.now _ c.loop-literal.kept.items c.loop-literal.literal-index c.loop-literal-test.false c.loop-literal.auto.literal-index-end
     (c.loop-literal.invariant.tightened known r (subst (IsGained known c.args.clause.now) (sym (to_z-of_z w32 c.args.last g)) h)))
 
 pub loop-literal-init : goal.loop-literal-init
 loop-literal-init c =
     let e = c.in_ok-kept.ensures.items in
+    let last = to_z w32 (of_z w32 c.args.last) in
+    let tried = c.deref-literal-items.ensures.value ∙ c.reverse.ensures.items ∙ ap reverse c.in_ok-candidates.ensures.items in
     record {
       room = refl;
       within = subst (All (IsWithin c.args.propagator.now.trail.room)) (sym e) c.requires.within;
       ready = λ known r. r;
-      tightened = λ known r h. subst (IsTightened known c.args.clause.now _ []) (sym e) (tightened-start known c.args.clause.now _ h);
+      tightened = λ known r h. subst (λ xs. IsTightened known c.deref-literal-items.result.now last [] xs) (sym e)
+          (subst (λ xs. IsTightened known xs last [] c.args.clause.now) (sym tried) (tightened-start known c.args.clause.now last h));
     }

@@ -12,5 +12,5 @@ invariant-loop-literal l = record {
   within : All (IsWithin l.fn.propagator.trail.room) l.kept.items;
   ready : (known : List (List ℤ)) → IsReady known l.fn.propagator → IsReady known l.propagator;
   tightened : (known : List (List ℤ)) → IsReady known l.fn.propagator → IsGained known l.clause l.last
-      → IsTightened known l.clause l.last (take l.literal-index l.clause) l.kept.items;
+      → IsTightened known l.literal-items l.last (take l.literal-index l.literal-items) l.kept.items;
 }
