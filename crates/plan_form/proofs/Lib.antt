@@ -1,0 +1,7 @@
+mod Bounds
+mod Costs
+mod Counts
+mod Faulty
+mod Indexes
+mod Keyed
+mod Parts
