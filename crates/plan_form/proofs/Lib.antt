@@ -1,7 +1,7 @@
-mod Bounds
-mod Costs
-mod Counts
+pub mod Bounds
+pub mod Costs
+pub mod Counts
 mod Faulty
-mod Indexes
+pub mod Indexes
 mod Keyed
 mod Parts
