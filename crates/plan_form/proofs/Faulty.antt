@@ -1,5 +1,5 @@
 -- The first edge that is not obeyed.
-use Rattle.std.proofs.Common.{◌≡◌, ◌⊎◌, inl, inr, ℕ, ◌+◌, ◌<◌, ◌≤◌, List, length, get_or, Option, Some, None, MatchOption, sym, subst, ap, ◌∙◌, arith}
+use Rattle.std.proofs.Common.{◌≡◌, ◌⊎◌, inl, inr, ℕ, ◌+◌, ◌<◌, List, length, get_or, Option, Some, None, MatchOption, sym, subst, ap, ◌∙◌, arith}
 use Rattle.std.proofs.lemmas.List.{get_or_default}
 use Rattle.std.proofs.lemmas.Bool.{cases_lt}
 use Rattle.plan_form.specs.declared.problem.Problem.{Problem}
@@ -8,12 +8,10 @@ use Rattle.plan_form.specs.declared.problem.MovePrice.{MovePrice}
 use Rattle.plan_form.specs.declared.problem.Step.{Step}
 use Rattle.plan_form.specs.declared.problem.Step.TheVariants.{Go, Lay}
 use Rattle.plan_form.specs.declared.check.Fault.{Fault}
-use Rattle.ppc_isa.specs.declared.map.Map.{Map}
 use Rattle.plan_form.specs.Full.{IsFullOver}
-use Rattle.plan_form.specs.Maps.{map_number}
 use Rattle.reg_map.specs.Moves.{moved}
 use Rattle.plan_form.specs.Plans.{Node, Leads}
-use Rattle.plan_form.specs.Labels.{IsAt, label_at, IsObeyed}
+use Rattle.plan_form.specs.Labels.{label_at, IsObeyed}
 use Rattle.plan_form.proofs.Indexes.{below-split, map-once}
 use Rattle.plan_form.specs.Faults.{IsPassed, IsFaultOf, IsEarlier, IsSound, IsFound, IsMoveFault, IsOfferFault, IsFirstFault}
 

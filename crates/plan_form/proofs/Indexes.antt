@@ -1,6 +1,6 @@
 -- Maps by their indexes: a map of a full problem stands at one index.
-use Rattle.std.proofs.Common.{◌≡◌, ◌⊎◌, inl, inr, ℕ, ◌+◌, ◌<◌, ◌≤◌, List, length, get_or, refl, sym, subst, ap, ◌∙◌, arith}
-use Rattle.std.proofs.lemmas.List.{get_or_default, get_or_read}
+use Rattle.std.proofs.Common.{◌≡◌, ◌⊎◌, inl, inr, ℕ, ◌+◌, ◌<◌, ◌≤◌, List, length, ap, ◌∙◌, arith}
+use Rattle.std.proofs.lemmas.List.{get_or_default}
 use Rattle.std.proofs.lemmas.Bool.{cases_lt}
 use Rattle.ppc_isa.specs.declared.map.Map.{Map}
 use Rattle.plan_form.specs.declared.problem.Problem.{Problem}
@@ -26,6 +26,7 @@ map-once q candidates price full m i j a b = go (cases_lt i j) (cases_lt j i)
         let less = full.in_order i j m h b.within in
         let e = ap (map_number candidates) a.is in let f = ap (map_number candidates) b.is in
         omega (arith, less, e, f)
+
     go : (i < j) ⊎ (j ≤ i) → (j < i) ⊎ (i ≤ j) → i ≡ j
     go (inl h) k = absurd (apart i j a b h)
     go (inr h) (inl k) = absurd (apart j i b a k)

@@ -1,6 +1,5 @@
 -- Keys tell maps apart.
-use Rattle.std.proofs.Common.{◌≡◌, ◌≢◌, ◌⊎◌, inl, inr, ℕ, ◌+◌, ◌*◌, ◌<◌, ◌≤◌, List, length, get_or, set, Option, Some, None, refl, sym, subst, ap, ◌∙◌, arith, get_or-set_same, get_or-set_other, length-set}
-use Rattle.std.proofs.lemmas.List.{get_or_default, get_or_read}
+use Rattle.std.proofs.Common.{◌≡◌, ◌≢◌, ◌⊎◌, inl, inr, ℕ, ◌+◌, ◌*◌, ◌<◌, List, length, get_or, set, Option, Some, None, refl, sym, subst, ap, ◌∙◌, arith, get_or-set_same, get_or-set_other, length-set}
 use Rattle.ppc_isa.specs.declared.map.Map.{Map}
 use Rattle.ppc_isa.specs.Map.{IsMap, IsHeld}
 use Rattle.plan_form.specs.declared.problem.Problem.{Problem}
@@ -49,13 +48,14 @@ index-more q candidates price full table n k within is h = record {
   where
     small : (i : ℕ) → i < length q.maps.items → IsMap (map_at q i)
     small i inside = map-small q candidates price full i inside
+
     go : (i : ℕ) → (i < n) ⊎ (i ≡ n) → get_or (set table k n) (key (map_at q i)) 0 ≡ i
     go i (inl less) =
         let inside : i < length q.maps.items = omega (arith, less, within) in
         let ne : key (map_at q i) ≢ k = λ e.
-            let same = key-once (map_at q i) (map_at q n) (small i inside) (small n within) (e ∙ is) in
-            let once = map-once q candidates price full (map_at q n) i n (subst (λ m. IsAt q m i) same (map_at-at q i inside)) (map_at-at q n within) in
-            omega (arith, once, less) in
+        let same = key-once (map_at q i) (map_at q n) (small i inside) (small n within) (e ∙ is) in
+        let once = map-once q candidates price full (map_at q n) i n (subst (λ m. IsAt q m i) same (map_at-at q i inside)) (map_at-at q n within) in
+        omega (arith, once, less) in
         get_or-set_other table k (key (map_at q i)) n 0 ne ∙ h.at i less
     go i (inr e) =
         let fits : k < length table = let f = key-fits (map_at q n) (small n within) in omega (arith, f, is, h.len) in

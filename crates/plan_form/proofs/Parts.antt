@@ -1,5 +1,5 @@
 -- A search in two parts of a list.
-use Rattle.std.proofs.Common.{◌≡◌, ◌⊎◌, inl, inr, ℕ, List, ◌++◌, ◌-◌, length, take, drop, Option, Some, None, MatchOption, sym, subst}
+use Rattle.std.proofs.Common.{inl, inr, ℕ, List, ◌-◌, length, take, drop, Option, Some, None, MatchOption, sym, subst}
 use Rattle.std.specs.List.{Contains}
 use Rattle.std.proofs.lemmas.List.{take-append-drop, take_rest}
 use Rattle.std.proofs.lemmas.List.Elements.{Contains-append_left, Contains-append_right, Contains-append_cases}

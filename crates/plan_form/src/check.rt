@@ -95,7 +95,12 @@ fn earlier(first: Option<Fault>, other: Option<Fault>) -> Option<Fault>
 }
 
 // The fault of a move.
-fn move_fault(problem: &Problem, labels: &Labels, indexes: &[u16], item: &MovePrice) -> Option<Fault>
+fn move_fault(
+    problem: &Problem,
+    labels: &Labels,
+    indexes: &[u16],
+    item: &MovePrice,
+) -> Option<Fault>
     requires full { IsFull problem.now }
     requires shaped { IsShaped problem.now (values_of labels.now) }
     requires indexes { IsIndex problem.now indexes.now }

@@ -1,18 +1,16 @@
 -- The labels made of the costs certify the plan that is chosen.
-use Rattle.std.proofs.Common.{◌≡◌, ◌≢◌, ◌⊎◌, inl, inr, ℕ, zero, suc, ◌+◌, ◌-◌, ◌*◌, ◌<◌, ◌≤◌, Bool, true, false, cond, eqb, eq-eqb, List, [], ◌∷◌, ◌++◌, length, get_or, refl, sym, subst, ap, ◌∙◌, arith}
+use Rattle.std.proofs.Common.{◌≡◌, ◌⊎◌, inl, inr, ℕ, ◌+◌, ◌<◌, ◌≤◌, Bool, true, false, cond, eqb, List, [], ◌∷◌, ◌++◌, length, get_or, refl, sym, subst, ap, ◌∙◌, arith}
 use Rattle.std.proofs.lemmas.Bool.{cases_lt}
 use Rattle.std.proofs.lemmas.List.{get_or_append_left, get_or_at, length_push}
 use Rattle.std.proofs.lemmas.Bool.Decides.{nat_tests}
-use Rattle.ppc_isa.specs.declared.map.Map.{Map}
 use Rattle.plan_form.specs.declared.problem.Problem.{Problem}
 use Rattle.plan_form.specs.declared.problem.Step.{Step}
 use Rattle.plan_form.specs.declared.problem.Step.TheVariants.{Go, Lay}
 use Rattle.plan_form.specs.Full.{IsFullOver}
-use Rattle.plan_form.specs.Plans.{Node, Leads, IsValidPlan, IsChosen, IsAsGood, entry_node, exit_node, last}
+use Rattle.plan_form.specs.Plans.{Node, Leads, IsChosen, IsAsGood, entry_node, exit_node, last}
 use Rattle.plan_form.specs.Labels.{IsAt, IsShaped, IsObeyed, Certifies, label_at}
 use Rattle.plan_form.proofs.Bounds.{at, walk-bound, label-last}
 use Rattle.plan_form.proofs.Costs.{node-same, leads-place}
-use Rattle.tile_plan.specs.declared.table.TheConstants.{NEVER}
 use Rattle.plan_form.specs.Labels.{map_at}
 use Rattle.tile_plan.specs.Arcs.{node_at}
 use Rattle.tile_plan.specs.Reach.{Reaches}

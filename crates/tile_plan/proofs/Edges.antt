@@ -1,10 +1,9 @@
 -- Edges collected by place.
-use Rattle.std.proofs.Common.{◌≡◌, ◌≢◌, ◌⊎◌, inl, inr, ℕ, suc, ◌+◌, ◌<◌, ◌≤◌, List, [], ◌∷◌, ◌++◌, length, get_or, refl, sym, subst, ap, ◌∙◌, arith, map, Vec, Global, set, get_or-set_same, get_or-set_other, length-set}
+use Rattle.std.proofs.Common.{◌≡◌, ◌≢◌, ◌⊎◌, inl, inr, ℕ, ◌+◌, ◌<◌, ◌≤◌, List, [], ◌∷◌, ◌++◌, length, get_or, refl, sym, subst, ap, ◌∙◌, arith, map, Vec, Global, set, get_or-set_same, get_or-set_other, length-set}
 use Rattle.std.specs.List.{All, Contains}
-use Rattle.std.proofs.lemmas.List.{get_or_default, map-append, map-set, length-map, length_push, get_or_append_left, get_or_at}
-use Rattle.std.proofs.lemmas.List.Elements.{All-push, All-contains, Contains-append_left, Contains-push, Contains-get_or}
+use Rattle.std.proofs.lemmas.List.{get_or_default, map-append, map-set, length-map, get_or_append_left, get_or_at}
+use Rattle.std.proofs.lemmas.List.Elements.{All-push, Contains-append_left, Contains-push, Contains-get_or}
 use Rattle.std.proofs.lemmas.Bool.{cases_eq}
-use Rattle.ppc_isa.specs.declared.map.Map.{Map}
 use Rattle.plan_form.specs.declared.problem.Problem.{Problem}
 use Rattle.plan_form.specs.declared.problem.Step.{Step}
 use Rattle.plan_form.specs.declared.problem.Step.TheVariants.{Go, Lay}
@@ -12,9 +11,7 @@ use Rattle.plan_form.specs.declared.problem.Offer.{Offer}
 use Rattle.plan_form.specs.declared.problem.MovePrice.{MovePrice}
 use Rattle.reg_map.specs.Moves.{moved}
 use Rattle.plan_form.specs.Plans.{Node, Leads}
-use Rattle.plan_form.specs.Labels.{IsAt}
-use Rattle.plan_form.specs.Labels.{map_at}
-use Rattle.tile_plan.specs.Arcs.{node_at, IsMoveArc, IsOfferArc, IsArc, AreArcs, AreAllArcs, IsCollected, AreFromPlace, AreSoFar, IsPushed}
+use Rattle.tile_plan.specs.Arcs.{node_at, IsMoveArc, IsOfferArc, IsArc, AreAllArcs, IsCollected, AreFromPlace, AreSoFar, IsPushed}
 use Rattle.plan_form.proofs.Costs.{node-same}
 use Rattle.plan_form.proofs.Indexes.{map_at-is, below-split}
 use Rattle.tile_plan.specs.declared.arcs.Arc.{Arc}
@@ -23,7 +20,7 @@ module _ {X : Type 0} (at : X → ℕ) (Is : X → Arc → Type 0) (place : ℕ)
   pub collect-push : (slice : List X) (n : ℕ) (arcs new : List Arc) (d : X) (arc : Arc) → slice ≡ items → n < length slice → new ≡ arcs ++ arc ∷ []
       → IsCollected at Is place items n arcs → Is (get_or slice n d) arc → IsCollected at Is place items (n + 1) new
   collect-push slice n arcs new d arc e within f h good =
-      subst (IsCollected at Is place items (n + 1)) (sym f) (record { each = λ k d' low here. go k d' here (below-split k n low); })
+      subst (IsCollected at Is place items (n + 1)) (sym f) (record { each = λ k d' low here. go k d' here (below-split k n low) })
     where
       go : (k : ℕ) (d' : X) → at (get_or items k d') ≡ place → (k < n) ⊎ (k ≡ n) → (a : Arc) × Contains (arcs ++ arc ∷ []) a × Is (get_or items k d') a
       go k d' here (inl low) = let a = h.each k d' low here in (a.0, Contains-append_left arcs (arc ∷ []) a.0 a.1, a.2)
@@ -82,7 +79,6 @@ offer-arc-is q place offer arc inside here is = record {
 pub sound-push : (q : Problem) (place : ℕ) (arcs new : List Arc) (arc : Arc) → new ≡ arcs ++ arc ∷ [] → All (IsArc q place) arcs → IsArc q place arc → All (IsArc q place) new
 sound-push q place arcs new arc f sound is = subst (All (IsArc q place)) (sym f) (All-push (IsArc q place) arcs arc sound is)
 
-
 pub contains-at : {X : Type 0} (slice items : List X) (n : ℕ) (d : X) → slice ≡ items → n < length slice → Contains items (get_or slice n d)
 contains-at slice items n d e within = subst (λ xs. Contains xs (get_or slice n d)) e (Contains-get_or slice n d within)
 
@@ -102,6 +98,7 @@ none-push q n rows more len none h k low =
   where
     size : length (map (λ a. a.items) rows) ≡ n
     size = length-map rows (λ a. a.items) ∙ len
+
     go : (k < n) ⊎ (k ≡ n) → get_or (map (λ a. a.items) rows ++ more.items ∷ []) k [] ≡ []
     go (inl less) = get_or_append_left (map (λ a. a.items) rows) (more.items ∷ []) [] k (omega (arith, less, size)) ∙ h k less
     go (inr e) = ap (λ j. get_or (map (λ a. a.items) rows ++ more.items ∷ []) j []) e ∙ get_or_at (map (λ a. a.items) rows) more.items [] [] n size ∙ none

@@ -1,5 +1,5 @@
 -- The first of the least walks, step by step.
-use Rattle.std.proofs.Common.{◌≡◌, ◌≢◌, ◌⊎◌, inl, inr, ℕ, zero, suc, ◌+◌, ◌-◌, ◌*◌, ◌/◌, ◌%◌, ◌<◌, ◌≤◌, List, [], ◌∷◌, ◌++◌, length, get_or, refl, sym, subst, ap, ◌∙◌, arith, append_assoc}
+use Rattle.std.proofs.Common.{◌≡◌, ◌⊎◌, inl, inr, ℕ, suc, ◌+◌, ◌-◌, ◌*◌, ◌/◌, ◌<◌, ◌≤◌, List, [], ◌∷◌, ◌++◌, length, get_or, refl, sym, subst, ap, ◌∙◌, arith, append_assoc}
 use Rattle.std.specs.List.{Contains}
 use Rattle.std.proofs.lemmas.List.Elements.{All-contains}
 use Rattle.plan_form.specs.Labels.{IsAt}
@@ -8,12 +8,11 @@ use Rattle.plan_form.specs.declared.problem.Problem.{Problem}
 use Rattle.plan_form.specs.declared.problem.Step.{Step}
 use Rattle.plan_form.specs.declared.problem.Step.TheVariants.{Go, Lay}
 use Rattle.plan_form.specs.Full.{IsFullOver}
-use Rattle.plan_form.specs.Plans.{Node, Leads, Leaves, IsWalk, IsValidPlan, entry_node, IsNotBehind, exit_node, order, last}
+use Rattle.plan_form.specs.Plans.{Node, Leads, Leaves, IsWalk, IsValidPlan, entry_node, IsNotBehind, order, last}
 use Rattle.plan_form.proofs.Bounds.{leads-once}
 use Rattle.plan_form.proofs.Costs.{node-same, leaves-once, price-small, leads-place}
 use Rattle.tile_plan.specs.declared.table.TheConstants.{NEVER}
 use Rattle.tile_plan.specs.declared.arcs.Arc.{Arc}
-use Rattle.plan_form.specs.Labels.{map_at}
 use Rattle.tile_plan.specs.Arcs.{node_at, IsArc, AreArcs}
 use Rattle.tile_plan.specs.Least.{HasWalk, IsLeast, IsTable}
 use Rattle.tile_plan.specs.Choice.{IsFirst, IsTight, IsChoice}
@@ -45,11 +44,18 @@ module _ (q : Problem) (candidates : List ℕ) (price : ℕ → ℕ → ℕ) (fu
       let small : b.0 < NEVER = omega (arith, low, weighs, some, h.7) in
       let back = b.1.reached small in
       let on = walk-on q moves (node_at q place i) step h.0 h.1 h.2 b.0 h.4 h.5 (subst (λ v. HasWalk q h.1 v b.0) a.to back) in
-      let high = least.bound on.steps on.cost on.walk in
-      (a, record {
-        from = a.from; after = h.1; leaves = leaves; rest = b.0; least = b.1; some = small;
-        weighs = omega (arith, low, weighs, h.7, high, on.weighs, a.price_is);
-      })
+      let high = least.bound on.steps on.cost on.walk in (
+        a,
+        record {
+          from = a.from;
+          after = h.1;
+          leaves = leaves;
+          rest = b.0;
+          least = b.1;
+          some = small;
+          weighs = omega (arith, low, weighs, h.7, high, on.weighs, a.price_is);
+        },
+      )
 
   pub first-on : (moves i weight : ℕ) (arc : Arc) → i < length q.maps.items → IsLeast q moves (node_at q place i) weight → weight < NEVER → 0 < weight
       → ((a : Arc) → Contains arcs a → (after : ℕ) → Leaves moves a.step after → (b : ℕ) × IsLeast q after (node_at q a.place a.to) b)
@@ -114,6 +120,7 @@ behind-of q candidates price full rows table place left few low enough arc good 
   where
     some-left : (n m : ℕ) → n ≡ suc m → 0 < n
     some-left n m h = omega (arith, h)
+
     go : (s : Step) → arc.step ≡ s → Leaves left s after → (b : ℕ) × IsLeast q after (node_at q arc.place arc.to) b
     go (Go move) e h = let b = go-beyond q candidates price full rows table place left arc move e good few (some-left left after h) low enough in (_, b.least after leaves)
     go (Lay tile) e h = let b = lay-beyond q candidates price full rows table place left arc tile e good low enough in (_, b.least after leaves)
@@ -144,7 +151,7 @@ module _ (q : Problem) (candidates : List ℕ) (price : ℕ → ℕ → ℕ) (fu
           at [] cost walk e = absurd (omega (arith, e, walk.1, more))
           at (x ∷ xs) cost walk e =
               let t = tight-of q candidates price full place arcs all left index weight h.inside h.least h.some x xs cost walk (omega (arith, e))
-                  (λ a inside after leaves. behind-of q candidates price full rows table place left h.few h.place_in (enough place left h.few) a (All-contains (IsArc q place) arcs a all.sound inside) after leaves) in
+              (λ a inside after leaves. behind-of q candidates price full rows table place left h.few h.place_in (enough place left h.few) a (All-contains (IsArc q place) arcs a all.sound inside) after leaves) in
               (t.0.arc, t.0.inside, t.1)
 
   pub walked-on : (steps : List Step) (place index left weight : ℕ) (arcs : List Arc) (arc : Arc) → AreArcs q place arcs → IsWalked q steps place index left weight → 0 < weight
@@ -159,8 +166,8 @@ module _ (q : Problem) (candidates : List ℕ) (price : ℕ → ℕ → ℕ) (fu
     start_least = h.start_least;
     onward = λ rest first.
         let on = first-on q candidates price full place arcs all left index weight arc h.inside h.least h.some more
-            (λ a inside after leaves. behind-of q candidates price full rows table place left h.few h.place_in (enough place left h.few) a (All-contains (IsArc q place) arcs a all.sound inside) after leaves)
-            c rest first in
+        (λ a inside after leaves. behind-of q candidates price full rows table place left h.few h.place_in (enough place left h.few) a (All-contains (IsArc q place) arcs a all.sound inside) after leaves)
+        c rest first in
         subst (λ xs. IsFirst q 6 (entry_node q) xs h.start) (sym (append_assoc steps (arc.step ∷ []) rest)) (h.onward (arc.step ∷ rest) on);
   }
     where
@@ -181,9 +188,13 @@ module _ (q : Problem) (candidates : List ℕ) (price : ℕ → ℕ → ℕ) (fu
       let entry = subst (λ u. IsLeast q 6 u w) same there in
       let short = walk-short q candidates price full 6 (entry_node q) steps cost (omega arith) plan in
       record {
-        inside = at.within; place_in = omega arith; few = omega arith; least = there;
+        inside = at.within;
+        place_in = omega arith;
+        few = omega arith;
+        least = there;
         some = let b = entry.bound steps cost plan in omega (arith, b, short, full.high);
-        start = w; start_least = entry;
+        start = w;
+        start_least = entry;
         onward = λ rest first. subst (λ u. IsFirst q 6 u rest w) same first;
       }
 

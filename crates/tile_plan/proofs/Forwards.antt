@@ -1,13 +1,12 @@
 -- Costs from the start, lowered edge by edge.
-use Rattle.std.proofs.Common.{◌≡◌, ◌≢◌, ◌⊎◌, inl, inr, ℕ, zero, suc, ◌+◌, ◌-◌, ◌*◌, ◌<◌, ◌≤◌, List, [], ◌∷◌, ◌++◌, length, get_or, set, map, refl, sym, subst, ap, ◌∙◌, arith, get_or-set_same, get_or-set_other, length-set}
-use Rattle.std.specs.List.{Contains, All}
+use Rattle.std.proofs.Common.{◌≡◌, ◌≢◌, ◌⊎◌, inl, inr, ℕ, suc, ◌+◌, ◌-◌, ◌<◌, ◌≤◌, List, [], ◌∷◌, ◌++◌, length, get_or, set, refl, sym, subst, ap, ◌∙◌, arith, get_or-set_same, get_or-set_other, length-set}
+use Rattle.std.specs.List.{All}
 use Rattle.std.proofs.lemmas.Bool.{cases_lt, cases_eq}
 use Rattle.std.proofs.lemmas.List.{get_or_default, get_or_append_left, get_or_at, length_push}
 use Rattle.std.proofs.lemmas.List.Elements.{All-contains}
 use Rattle.plan_form.specs.declared.problem.Step.TheVariants.{Go, Lay}
 use Rattle.plan_form.specs.Full.{IsFullOver}
 use Rattle.plan_form.specs.Labels.{IsAt}
-use Rattle.ppc_isa.specs.declared.map.Map.{Map}
 use Rattle.plan_form.specs.declared.problem.Problem.{Problem}
 use Rattle.plan_form.specs.declared.problem.Step.{Step}
 use Rattle.plan_form.specs.Plans.{Node, Leads, entry_node}
@@ -19,7 +18,7 @@ use Rattle.tile_plan.specs.Reach.{Reaches}
 use Rattle.tile_plan.specs.Reach.Reaches.{starts, steps_on}
 use Rattle.tile_plan.specs.Forward.{AreReached, AreLower, AreObeyed, IsRelaxed, AreStartCosts, StartsFree, AreObeyedFrom, IsForwardRow, AreForward}
 use Rattle.plan_form.proofs.Indexes.{map_at-at, map-once, below-split}
-use Rattle.tile_plan.proofs.Leasts.{HasArc, has-arc}
+use Rattle.tile_plan.proofs.Leasts.{has-arc}
 
 module _ (q : Problem) (source place : ℕ) (arcs : List Arc) (from : List ℕ) where
   obeyed-more : (n : ℕ) (arc d : Arc) (row : List ℕ) → n < length arcs → get_or arcs n d ≡ arc
@@ -28,6 +27,7 @@ module _ (q : Problem) (source place : ℕ) (arcs : List Arc) (from : List ℕ) 
     where
       at : (a : Arc) → a ≡ arc → a.place ≡ place → get_or row a.to 0 ≤ get_or from a.from 0 + a.price
       at a f there = subst (λ b. get_or row b.to 0 ≤ get_or from b.from 0 + b.price) (sym f) (new (ap (λ b. b.place) (sym f) ∙ there))
+
       go : (k < n) ⊎ (k ≡ n) → get_or row (get_or arcs k e).to 0 ≤ get_or from (get_or arcs k e).from 0 + (get_or arcs k e).price
       go (inl less) = h k e less there
       go (inr same) = at (get_or arcs k e) (ap (λ j. get_or arcs j e) same ∙ get_or_default arcs n e d within ∙ is) there
@@ -35,7 +35,9 @@ module _ (q : Problem) (source place : ℕ) (arcs : List Arc) (from : List ℕ) 
   pub relax-kept : (n : ℕ) (arc d : Arc) (old row : List ℕ) → n < length arcs → get_or arcs n d ≡ arc
       → (arc.place ≡ place → get_or row arc.to 0 ≤ get_or from arc.from 0 + arc.price) → IsRelaxed q place arcs n from old row → IsRelaxed q place arcs (n + 1) from old row
   relax-kept n arc d old row within is new h = record {
-    reached = h.reached; lower = h.lower; obeyed = obeyed-more n arc d row within is new h.obeyed;
+    reached = h.reached;
+    lower = h.lower;
+    obeyed = obeyed-more n arc d row within is new h.obeyed;
   }
 
   pub relax-lowered : (n : ℕ) (arc d : Arc) (old row : List ℕ) (cost : ℕ) → n < length arcs → get_or arcs n d ≡ arc → IsArc q source arc → arc.place ≡ place
@@ -54,24 +56,31 @@ module _ (q : Problem) (source place : ℕ) (arcs : List Arc) (from : List ℕ) 
     where
       inside_row : arc.to < length row
       inside_row = omega (arith, h.reached.len, good.to)
+
       hit : get_or (set row arc.to cost) arc.to 0 ≡ cost
       hit = get_or-set_same row arc.to cost 0 inside_row
+
       most : get_or row arc.to 0 ≤ NEVER
       most = h.reached.high arc.to good.to
+
       high : (i : ℕ) → i < length q.maps.items → (i ≡ arc.to) ⊎ (i ≢ arc.to) → get_or (set row arc.to cost) i 0 ≤ NEVER
       high i inside (inl e) = subst (λ j. get_or (set row arc.to cost) j 0 ≤ NEVER) (sym e) (omega (arith, hit, most, less))
       high i inside (inr ne) = let e = get_or-set_other row arc.to i cost 0 ne in omega (arith, e, h.reached.high i inside)
+
       lower : (i : ℕ) → i < length q.maps.items → (i ≡ arc.to) ⊎ (i ≢ arc.to) → get_or (set row arc.to cost) i 0 ≤ get_or old i 0
       lower i inside (inl e) = subst (λ j. get_or (set row arc.to cost) j 0 ≤ get_or old j 0) (sym e) (omega (arith, hit, less, h.lower arc.to good.to))
       lower i inside (inr ne) = let e = get_or-set_other row arc.to i cost 0 ne in omega (arith, e, h.lower i inside)
+
       on : Reaches q (node_at q place arc.to) cost
       on = subst (Reaches q (node_at q place arc.to)) (sym cost_is) (subst (λ p. Reaches q (node_at q p arc.to) (get_or from arc.from 0 + arc.price)) there
           (steps_on arc.step arc.price (node_at q arc.place arc.to) (sources.reached arc.from good.from (omega (arith, cost_is, less, most))) good.leads))
+
       reached : (i : ℕ) → i < length q.maps.items → (i ≡ arc.to) ⊎ (i ≢ arc.to) → get_or (set row arc.to cost) i 0 < NEVER → Reaches q (node_at q place i) (get_or (set row arc.to cost) i 0)
       reached i inside (inl e) some = subst (λ j. Reaches q (node_at q place j) (get_or (set row arc.to cost) j 0)) (sym e) (subst (Reaches q (node_at q place arc.to)) (sym hit) on)
       reached i inside (inr ne) some =
           let e = get_or-set_other row arc.to i cost 0 ne in
           subst (Reaches q (node_at q place i)) (sym e) (h.reached.reached i inside (subst (λ n. n < NEVER) e some))
+
       kept : (k : ℕ) (e : Arc) → k < n → (get_or arcs k e).place ≡ place → ((get_or arcs k e).to ≡ arc.to) ⊎ ((get_or arcs k e).to ≢ arc.to)
           → get_or (set row arc.to cost) (get_or arcs k e).to 0 ≤ get_or from (get_or arcs k e).from 0 + (get_or arcs k e).price
       kept k e low place_is (inl f) =
@@ -98,6 +107,7 @@ sum-lower (x ∷ xs) (y ∷ ys) e h =
     le : (xs ys : List ℕ) → (xs ≡ ys) ⊎ (total xs < total ys) → total xs ≤ total ys
     le xs ys (inl e) = omega (arith, ap total e)
     le xs ys (inr h) = omega (arith, h)
+
     go : x ≤ y → (x < y) ⊎ (y ≤ x) → (xs ≡ ys) ⊎ (total xs < total ys) → (x ∷ xs ≡ y ∷ ys) ⊎ (x + total xs < y + total ys)
     go first (inl less) rest = inr (omega (arith, less, le xs ys rest))
     go first (inr high) (inl rest) = inl (let f : x ≡ y = omega (arith, first, high) in cc)
@@ -119,6 +129,7 @@ start-reached q place row h = (
     high : (v : ℕ) {P : Type 0} → (v ≡ NEVER) ⊎ ((v ≡ 0) × P) → v ≤ NEVER
     high v (inl e) = omega (arith, e)
     high v (inr e) = omega (arith, e.0)
+
     reached : (v : ℕ) (u : Node) → (v ≡ NEVER) ⊎ ((v ≡ 0) × (u ≡ entry_node q)) → v < NEVER → Reaches q u v
     reached v u (inl e) some = absurd (omega (arith, e, some))
     reached v u (inr e) some = subst (Reaches q u) (sym e.0) (subst (λ w. Reaches q w 0) (sym e.1) starts)
@@ -161,7 +172,7 @@ module _ (q : Problem) (candidates : List ℕ) (price : ℕ → ℕ → ℕ) (fu
       let same_map : map_at q a.arc.to ≡ map_at q j = ap (λ (w : Node). w.map) a.to in
       let same : a.arc.to ≡ j = map-once q candidates price full (map_at q j) a.arc.to j (subst (λ m. IsAt q m a.arc.to) same_map (map_at-at q a.arc.to good.to)) (map_at-at q j there) in
       let low : get_or row a.arc.to 0 ≤ get_or from a.arc.from 0 + a.arc.price = subst (λ x. get_or row x.to 0 ≤ get_or from x.from 0 + x.price) is
-          (obeyed k a.arc a.inside.1 (ap (λ x. x.place) is ∙ at_place)) in
+      (obeyed k a.arc a.inside.1 (ap (λ x. x.place) is ∙ at_place)) in
       omega (arith, low, ap (λ x. get_or row x 0) same, ap (λ x. get_or from x 0) a.from, a.price_is)
 
   near : (source i : ℕ) (step : Step) (cost : ℕ) (place j : ℕ) → source < place → Leads q (node_at q source i) step cost (node_at q place j) → place - 3 ≤ source
@@ -172,7 +183,8 @@ module _ (q : Problem) (candidates : List ℕ) (price : ℕ → ℕ → ℕ) (fu
       → AreReached q place row → StartsFree q place row → AreObeyedFrom q place arcs rows (place - 3) place row
       → AreObeyed place (get_or arcs place []) (length (get_or arcs place [])) row row → IsForwardRow q rows place row
   forward-row place arcs rows row all reached start before here = record {
-    reached = reached; start = start;
+    reached = reached;
+    start = start;
     before = λ source i j step cost less inside there leads.
         arc-obeyed source place (get_or arcs source []) (get_or rows source []) row (all source (omega (arith, less)))
         (before source (near source i step cost place j less leads) less) i j step cost inside there leads;
@@ -182,7 +194,9 @@ module _ (q : Problem) (candidates : List ℕ) (price : ℕ → ℕ → ℕ) (fu
 -- one more place
 forward-grown : (q : Problem) (rows : List (List ℕ)) (more row : List ℕ) (place : ℕ) → place ≤ length rows → IsForwardRow q rows place row → IsForwardRow q (rows ++ more ∷ []) place row
 forward-grown q rows more row place low h = record {
-  reached = h.reached; start = h.start; here = h.here;
+  reached = h.reached;
+  start = h.start;
+  here = h.here;
   before = λ source i j step cost less inside there leads.
       let e = get_or_append_left rows (more ∷ []) [] source (omega (arith, less, low)) in
       let f = ap (λ xs. get_or xs i 0) e in

@@ -1,26 +1,19 @@
 -- Least weights by the edges from a node.
-use Rattle.std.proofs.Common.{◌≡◌, ◌≢◌, ◌⊎◌, inl, inr, ℕ, zero, suc, ◌+◌, ◌-◌, ◌*◌, ◌/◌, ◌%◌, ◌<◌, ◌≤◌, List, [], ◌∷◌, ◌++◌, length, get_or, set, refl, sym, subst, ap, ◌∙◌, arith, get_or-set_same, get_or-set_other, length-set, map, Vec, Global}
+use Rattle.std.proofs.Common.{◌≡◌, ◌≢◌, ◌⊎◌, inl, inr, ℕ, suc, ◌+◌, ◌-◌, ◌*◌, ◌/◌, ◌%◌, ◌<◌, ◌≤◌, List, [], ◌∷◌, ◌++◌, length, get_or, set, refl, sym, subst, ap, ◌∙◌, arith, get_or-set_same, get_or-set_other, length-set, map, Vec, Global}
 use Rattle.std.proofs.lemmas.Bool.{cases_eq}
-use Rattle.std.specs.List.{All, Contains}
+use Rattle.std.specs.List.{Contains}
 use Rattle.std.proofs.lemmas.List.{get_or_default, get_or_read, map-append, length-map, get_or_append_left, get_or_at, length_push}
-use Rattle.std.proofs.lemmas.List.Elements.{All-contains}
-use Rattle.std.proofs.lemmas.Bool.{cases_lt}
-use Rattle.ppc_isa.specs.declared.map.Map.{Map}
 use Rattle.reg_map.specs.declared.moves.Move.{Move}
 use Rattle.plan_form.specs.declared.problem.Tile.{Tile}
 use Rattle.plan_form.specs.declared.problem.Problem.{Problem}
 use Rattle.plan_form.specs.declared.problem.Step.{Step}
 use Rattle.plan_form.specs.declared.problem.Step.TheVariants.{Go, Lay}
-use Rattle.plan_form.specs.declared.problem.Offer.{Offer}
-use Rattle.plan_form.specs.declared.problem.MovePrice.{MovePrice}
-use Rattle.reg_map.specs.Moves.{moved}
 use Rattle.plan_form.specs.Full.{IsFullOver}
 use Rattle.plan_form.specs.Plans.{Node, Leads, Leaves, IsWalk, exit_node, last}
-use Rattle.plan_form.specs.Labels.{IsAt}
 use Rattle.tile_plan.specs.declared.table.TheConstants.{NEVER}
 use Rattle.tile_plan.specs.declared.arcs.Arc.{Arc}
 use Rattle.plan_form.specs.Labels.{map_at}
-use Rattle.tile_plan.specs.Arcs.{node_at, IsMoveArc, IsOfferArc, IsArc, AreArcs}
+use Rattle.tile_plan.specs.Arcs.{node_at, IsArc, AreArcs}
 use Rattle.tile_plan.specs.Least.{HasWalk, IsLeast, IsRow, IsTable, IsBeyond}
 use Rattle.plan_form.proofs.Costs.{node-same}
 use Rattle.plan_form.proofs.Indexes.{map_at-is, map_at-at, map-once, below-split}
@@ -84,7 +77,10 @@ module _ (q : Problem) (place moves limit : ℕ) (arcs : List Arc) where
   part-more : (n i v : ℕ) (arc d : Arc) (b : ℕ) → n < length arcs → get_or arcs n d ≡ arc → IsBeyond q moves limit arc b
       → (arc.from ≡ i → v ≤ 512 * arc.price + 1 + b) → IsPart q place moves limit arcs n i v → IsPart q place moves limit arcs (n + 1) i v
   part-more n i v arc d b within is beyond low h = record {
-    reached = h.reached; small = h.small; high = h.high; end = h.end;
+    reached = h.reached;
+    small = h.small;
+    high = h.high;
+    end = h.end;
     bound = λ k e low here after steps c leaves walk. go k e here after steps c leaves walk (below-split k n low);
   }
     where
@@ -95,6 +91,7 @@ module _ (q : Problem) (place moves limit : ℕ) (arcs : List Arc) where
           let w = l.bound steps c (subst (λ x. IsWalk q after (node_at q x.place x.to) steps c) e walk) in
           let p = ap (λ x. x.price) e in
           omega (arith, low (ap (λ x. x.from) (sym e) ∙ from), w, p)
+
       go : (k : ℕ) (e : Arc) → (get_or arcs k e).from ≡ i → (after : ℕ) (steps : List Step) (c : ℕ) → Leaves moves (get_or arcs k e).step after
           → IsWalk q after (node_at q (get_or arcs k e).place (get_or arcs k e).to) steps c → (k < n) ⊎ (k ≡ n)
           → v ≤ 512 * (get_or arcs k e).price + 1 + (512 * c + length steps)
@@ -105,7 +102,10 @@ module _ (q : Problem) (place moves limit : ℕ) (arcs : List Arc) where
   part-lower : (n i v w : ℕ) → w < v → (node_at q place i ≡ exit_node q → w ≡ 0) → HasWalk q moves (node_at q place i) w → w ≤ limit
       → IsPart q place moves limit arcs n i v → IsPart q place moves limit arcs n i w
   part-lower n i v w less end walk small h = record {
-    reached = λ _. walk; small = λ _. small; high = omega (arith, h.high); end = end;
+    reached = λ _. walk;
+    small = λ _. small;
+    high = omega (arith, h.high);
+    end = end;
     bound = λ k d low here after steps c leaves way. omega (arith, h.bound k d low here after steps c leaves way);
   }
 
@@ -128,6 +128,7 @@ module _ (q : Problem) (place moves limit : ℕ) (arcs : List Arc) where
     where
       w : ℕ
       w = 512 * arc.price + 1 + b
+
       go : (i : ℕ) → i < length q.maps.items → (i ≡ arc.from) ⊎ (i ≢ arc.from) → IsPart q place moves limit arcs (n + 1) i (get_or (set row arc.from (512 * arc.price + 1 + b)) i 0)
       go i inside (inr ne) =
           subst (λ v. IsPart q place moves limit arcs (n + 1) i v) (sym (get_or-set_other row arc.from i (512 * arc.price + 1 + b) 0 ne))
@@ -138,7 +139,7 @@ module _ (q : Problem) (place moves limit : ℕ) (arcs : List Arc) where
           let small = beyond.small some in
           let old = h.parts arc.from good.from in
           let lower = part-lower n arc.from (get_or row arc.from 0) (512 * arc.price + 1 + b) less
-              (λ at_end. absurd (omega (arith, old.end at_end, less))) walk (omega (arith, small, cheap)) old in
+          (λ at_end. absurd (omega (arith, old.end at_end, less))) walk (omega (arith, small, cheap)) old in
           let inside_row : arc.from < length row = omega (arith, h.len, good.from) in
           subst (λ j. IsPart q place moves limit arcs (n + 1) j (get_or (set row arc.from (512 * arc.price + 1 + b)) j 0)) (sym e)
           (subst (λ v. IsPart q place moves limit arcs (n + 1) arc.from v) (sym (get_or-set_same row arc.from (512 * arc.price + 1 + b) 0 inside_row))

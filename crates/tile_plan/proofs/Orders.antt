@@ -1,22 +1,20 @@
 -- The order of steps tells the steps from a node apart.
-use Rattle.std.proofs.Common.{◌≡◌, ◌≢◌, ◌⊎◌, inl, inr, ℕ, zero, suc, ◌+◌, ◌-◌, ◌*◌, ◌^◌, ◌<◌, ◌≤◌, ◌==◌, Bool, true, false, not, cond, List, [], ◌∷◌, length, get_or, Option, Some, None, refl, sym, subst, ap, ◌∙◌, arith, eqb, eq-eqb}
-use Rattle.std.specs.List.{Contains, position_or_len, prefix_len}
+use Rattle.std.proofs.Common.{◌≡◌, inl, inr, ℕ, zero, suc, ◌+◌, ◌^◌, ◌<◌, ◌≤◌, Bool, true, false, not, cond, List, [], ◌∷◌, length, get_or, Option, Some, None, refl, sym, subst, ap, ◌∙◌, arith, eqb, eq-eqb}
+use Rattle.std.specs.List.{Contains, prefix_len}
 use Rattle.std.proofs.lemmas.List.Sums.{prefix_len-le-length, prefix_len_passes}
 use Rattle.std.proofs.lemmas.Bool.{cases_lt}
 use Rattle.std.proofs.lemmas.List.Elements.{All-contains}
 use Rattle.std.proofs.lemmas.List.{get_or_default}
 use Rattle.std.proofs.lemmas.Bool.Decides.{nat_tests}
 use Rattle.ppc_isa.specs.declared.map.Map.{Map}
-use Rattle.reg_map.specs.declared.moves.Move.{Move}
 use Rattle.reg_map.specs.declared.moves.Move.TheVariants.{Drop, Take}
 use Rattle.plan_form.specs.declared.problem.Problem.{Problem}
 use Rattle.plan_form.specs.declared.problem.Step.{Step}
 use Rattle.plan_form.specs.declared.problem.Step.TheVariants.{Go, Lay}
-use Rattle.plan_form.specs.declared.problem.Tile.{Tile}
 use Rattle.plan_form.specs.declared.problem.Tile.TheVariants.{Base, Rule}
-use Rattle.reg_map.specs.Moves.{moved, content, with_content, IsPossible}
-use Rattle.plan_form.specs.Maps.{IsMapOver, IsContentOf}
-use Rattle.plan_form.specs.Full.{IsFullOver, IsNumbered}
+use Rattle.reg_map.specs.Moves.{with_content}
+use Rattle.plan_form.specs.Maps.{IsMapOver}
+use Rattle.plan_form.specs.Full.{IsFullOver}
 use Rattle.plan_form.proofs.Counts.{few-maps}
 use Rattle.plan_form.specs.Plans.{Node, Leads, order, rank, is_alone}
 
@@ -75,13 +73,15 @@ unfolding lone
 rank-once q candidates price full g h cg ch e =
     let stands = λ (x : ℕ) (c : Contains candidates x). (full.maps (lone x)).1 (record {
       is_map = record { ebx = tt; esi = tt; edi = All-contains (λ y. y < 32) candidates x full.registers c; ebx_esi = tt; ebx_edi = tt; esi_edi = tt };
-      ebx = tt; esi = tt; edi = c;
+      ebx = tt;
+      esi = tt;
+      edi = c;
     }) in
     let within = first-within (is_lone g) (lone g) q.maps.items (stands g cg) (lone-is g) in
     let a = passes-first (is_lone g) (lone g) q.maps.items (lone-is g) in
     let b = passes-first (is_lone h) (lone h) q.maps.items (lone-is h) in
     let same : get_or q.maps.items (rank q g) (lone g) ≡ get_or q.maps.items (rank q h) (lone h)
-        = get_or_default q.maps.items (rank q g) (lone g) (lone h) within ∙ ap (λ i. get_or q.maps.items i (lone h)) e in
+    = get_or_default q.maps.items (rank q g) (lone g) (lone h) within ∙ ap (λ i. get_or q.maps.items i (lone h)) e in
     let m = get_or q.maps.items (rank q g) (lone g) in
     let n = get_or q.maps.items (rank q h) (lone h) in
     let c : m.edi ≡ Some g = alone-is g m.ebx m.esi m.edi a in

@@ -1,5 +1,5 @@
 -- Every node of a full problem is reached from the start, at a cost below NEVER.
-use Rattle.std.proofs.Common.{◌≡◌, ◌⊎◌, inl, inr, ℕ, zero, suc, ◌+◌, ◌-◌, ◌*◌, ◌<◌, ◌≤◌, List, Option, Some, None, refl, sym, subst, ap, ◌∙◌, arith}
+use Rattle.std.proofs.Common.{◌≡◌, inl, inr, ℕ, zero, suc, ◌+◌, ◌-◌, ◌*◌, ◌<◌, ◌≤◌, List, Option, Some, None, refl, sym, subst, ◌∙◌, arith}
 use Rattle.std.proofs.lemmas.Bool.{cases_lt}
 use Rattle.ppc_isa.specs.declared.map.Map.{Map}
 use Rattle.reg_map.specs.declared.moves.Move.{Move}
@@ -10,7 +10,7 @@ use Rattle.plan_form.specs.declared.problem.Step.TheVariants.{Go, Lay}
 use Rattle.plan_form.specs.declared.problem.Tile.TheVariants.{Base}
 use Rattle.plan_form.specs.Maps.{IsMapOver}
 use Rattle.plan_form.specs.Full.{IsFullOver}
-use Rattle.plan_form.specs.Plans.{Node, entry_node, exit_node, last}
+use Rattle.plan_form.specs.Plans.{Node, exit_node, last}
 use Rattle.plan_form.proofs.Costs.{node-same}
 use Rattle.tile_plan.specs.Reach.{Reaches}
 use Rattle.tile_plan.specs.Reach.Reaches.{starts, steps_on}
@@ -36,7 +36,7 @@ module _ (q : Problem) (candidates : List ℕ) (price : ℕ → ℕ → ℕ) (fu
     by-move m move limit from possible to h =
         let paid = price place (moved_gpr m move) in
         let inside = (full.moves (record { place = place; map = m; step = move; price = paid })).1
-            (record { place = before; from = from; possible = possible; to = to; price_is = refl }) in
+        (record { place = before; from = from; possible = possible; to = to; price_is = refl }) in
         let low : price place (moved_gpr m move) ≤ 3 = elim (full.prices place (moved_gpr m move)) [ inl e ↦ omega (arith, e) | inr e ↦ omega (arith, e) ] in
         record { cost = h.cost + paid; reaches = steps_on (Go move) paid (at_map (moved m move)) h.reaches (inside, refl); low = omega (arith, h.low, low) }
 
@@ -61,17 +61,17 @@ module _ (q : Problem) (candidates : List ℕ) (price : ℕ → ℕ → ℕ) (fu
     by-switch m n limit from to h =
         let s = sub-same in let none = sub-none in
         let e0 = emptied (λ x. map_of x m.esi m.edi) 0 (omega arith) (λ x. refl) (λ x y. refl) m.ebx limit
-            from (map-sub candidates m _ _ _ from (none m.ebx) (s m.esi) (s m.edi)) h in
+        from (map-sub candidates m _ _ _ from (none m.ebx) (s m.esi) (s m.edi)) h in
         let e1 = emptied (λ x. map_of None x m.edi) 1 (omega arith) (λ x. refl) (λ x y. refl) m.esi _
-            (map-sub candidates m _ _ _ from (none m.ebx) (s m.esi) (s m.edi)) (map-sub candidates m _ _ _ from (none m.ebx) (none m.esi) (s m.edi)) e0 in
+        (map-sub candidates m _ _ _ from (none m.ebx) (s m.esi) (s m.edi)) (map-sub candidates m _ _ _ from (none m.ebx) (none m.esi) (s m.edi)) e0 in
         let e2 = emptied (λ x. map_of None None x) 2 (omega arith) (λ x. refl) (λ x y. refl) m.edi _
-            (map-sub candidates m _ _ _ from (none m.ebx) (none m.esi) (s m.edi)) (map-sub candidates m _ _ _ from (none m.ebx) (none m.esi) (none m.edi)) e1 in
+        (map-sub candidates m _ _ _ from (none m.ebx) (none m.esi) (s m.edi)) (map-sub candidates m _ _ _ from (none m.ebx) (none m.esi) (none m.edi)) e1 in
         let f0 = filled (λ x. map_of x None None) 0 (omega arith) (λ x. refl) (λ x y. refl) n.ebx _
-            (map-sub candidates n _ _ _ to (none n.ebx) (none n.esi) (none n.edi)) (map-sub candidates n _ _ _ to (s n.ebx) (none n.esi) (none n.edi)) e2 in
+        (map-sub candidates n _ _ _ to (none n.ebx) (none n.esi) (none n.edi)) (map-sub candidates n _ _ _ to (s n.ebx) (none n.esi) (none n.edi)) e2 in
         let f1 = filled (λ x. map_of n.ebx x None) 1 (omega arith) (λ x. refl) (λ x y. refl) n.esi _
-            (map-sub candidates n _ _ _ to (s n.ebx) (none n.esi) (none n.edi)) (map-sub candidates n _ _ _ to (s n.ebx) (s n.esi) (none n.edi)) f0 in
+        (map-sub candidates n _ _ _ to (s n.ebx) (none n.esi) (none n.edi)) (map-sub candidates n _ _ _ to (s n.ebx) (s n.esi) (none n.edi)) f0 in
         let f2 = filled (λ x. map_of n.ebx n.esi x) 2 (omega arith) (λ x. refl) (λ x y. refl) n.edi _
-            (map-sub candidates n _ _ _ to (s n.ebx) (s n.esi) (none n.edi)) to f1 in
+        (map-sub candidates n _ _ _ to (s n.ebx) (s n.esi) (none n.edi)) to f1 in
         higher q (limit + 3 + 3 + 3 + 3 + 3 + 3) (limit + 18) (record { place = place; map = n }) (omega arith) f2
 
   by-base : (place : ℕ) (m : Map) (limit : ℕ) → place < last q → IsMapOver candidates m → (place + 1 ≡ last q → m ≡ q.exit)

@@ -1,7 +1,5 @@
 -- Whatever is reached is reached with at most six moves in a row, at no higher cost; and a full problem has a plan.
-use Rattle.std.proofs.Common.{◌≡◌, ◌⊎◌, inl, inr, ℕ, zero, suc, ◌+◌, ◌-◌, ◌*◌, ◌<◌, ◌≤◌, List, [], ◌∷◌, length, refl, sym, subst, ap, ◌∙◌, arith, add_assoc}
-use Rattle.std.specs.List.{Contains}
-use Rattle.std.proofs.lemmas.Bool.{cases_lt}
+use Rattle.std.proofs.Common.{◌≡◌, ℕ, zero, suc, ◌+◌, ◌-◌, ◌≤◌, List, [], ◌∷◌, refl, sym, subst, arith}
 use Rattle.ppc_isa.specs.declared.map.Map.{Map}
 use Rattle.plan_form.specs.declared.problem.Problem.{Problem}
 use Rattle.plan_form.specs.declared.problem.Step.{Step}
@@ -10,7 +8,7 @@ use Rattle.plan_form.specs.declared.problem.Tile.TheVariants.{Base}
 use Rattle.plan_form.specs.declared.problem.Tile.{Tile}
 use Rattle.plan_form.specs.Maps.{IsMapOver}
 use Rattle.plan_form.specs.Full.{IsFullOver}
-use Rattle.plan_form.specs.Plans.{Node, Leads, Leaves, IsWalk, IsValidPlan, exit_node, entry_node, last}
+use Rattle.plan_form.specs.Plans.{Node, Leads, IsValidPlan, exit_node, last}
 use Rattle.plan_form.proofs.Costs.{node-same}
 use Rattle.tile_plan.specs.Reach.{Reaches}
 use Rattle.tile_plan.specs.Reach.Reaches.{starts, steps_on}
@@ -49,7 +47,12 @@ module _ (q : Problem) (candidates : List ℕ) (price : ℕ → ℕ → ℕ) (fu
       let on = switch-on (price u.place) b.base u.map go m.possible in
       subst (λ w. IsBased q candidates price w (cost + paid)) (sym h.1)
       (record {
-        base = b.base; spent = b.spent; base_over = b.base_over; over = m.to; place_in = b.place_in; completes = b.completes;
+        base = b.base;
+        spent = b.spent;
+        base_over = b.base_over;
+        over = m.to;
+        place_in = b.place_in;
+        completes = b.completes;
         low = omega (arith, b.low, on, m.price_is);
         at_end = λ e. absurd (omega (arith, e, m.place));
       })
@@ -67,8 +70,10 @@ module _ (q : Problem) (candidates : List ℕ) (price : ℕ → ℕ → ℕ) (fu
       let o = full.offers _ h.0 in
       let zero_price = switch-same (price v.place) v.map in
       record {
-        base = v.map; spent = b.spent + switch_price (price u.place) b.base u.map + paid;
-        base_over = subst (IsMapOver candidates) (sym h.1) b.over; over = subst (IsMapOver candidates) (sym h.1) b.over;
+        base = v.map;
+        spent = b.spent + switch_price (price u.place) b.base u.map + paid;
+        base_over = subst (IsMapOver candidates) (sym h.1) b.over;
+        over = subst (IsMapOver candidates) (sym h.1) b.over;
         place_in = o.within;
         completes = λ rest w. let p = lay-from u tile paid v h b.base b.spent rest b.base_over b.over b.completes w in
             record { steps = p.steps; cost = p.cost; plan = p.plan; low = omega (arith, p.low) };
@@ -78,7 +83,11 @@ module _ (q : Problem) (candidates : List ℕ) (price : ℕ → ℕ → ℕ) (fu
 
   based : (u : Node) (cost : ℕ) → Reaches q u cost → IsBased q candidates price u cost
   based _ _ starts = record {
-    base = q.entry; spent = 0; base_over = full.entry; over = full.entry; place_in = omega arith;
+    base = q.entry;
+    spent = 0;
+    base_over = full.entry;
+    over = full.entry;
+    place_in = omega arith;
     completes = λ rest w. record { steps = w.steps; cost = rest; plan = w.walk; low = omega arith };
     low = let z = switch-same (price 0) q.entry in omega (arith, z);
     at_end = λ e. absurd (omega (arith, e, full.low));

@@ -1,21 +1,18 @@
 -- A switch from one map to another: at most three Drops and then at most three Takes, and no list of moves costs less.
-use Rattle.std.proofs.Common.{◌≡◌, ◌≢◌, ◌⊎◌, inl, inr, ℕ, zero, suc, ◌+◌, ◌-◌, ◌*◌, ◌<◌, ◌≤◌, Bool, true, false, cond, eqb, eq-eqb, List, [], ◌∷◌, length, Option, Some, None, refl, sym, subst, ap, ◌∙◌, arith, if◌then◌else◌}
-use Rattle.std.specs.List.{Contains}
+use Rattle.std.proofs.Common.{◌≡◌, ◌≢◌, ◌⊎◌, inl, inr, ℕ, zero, suc, ◌+◌, ◌<◌, ◌≤◌, Bool, true, false, cond, eqb, eq-eqb, List, [], ◌∷◌, Option, Some, None, refl, sym, subst, ap, ◌∙◌, arith, if◌then◌else◌}
 use Rattle.std.proofs.lemmas.Bool.Decides.{nat_tests}
 use Rattle.ppc_isa.specs.declared.map.Map.{Map}
 use Rattle.reg_map.specs.declared.moves.Move.{Move}
 use Rattle.reg_map.specs.declared.moves.Move.TheVariants.{Drop, Take}
 use Rattle.plan_form.specs.declared.problem.Problem.{Problem}
-use Rattle.plan_form.specs.declared.problem.MovePrice.{MovePrice}
 use Rattle.plan_form.specs.declared.problem.Step.{Step}
 use Rattle.plan_form.specs.declared.problem.Step.TheVariants.{Go, Lay}
-use Rattle.plan_form.specs.declared.problem.Tile.TheVariants.{Base}
 use Rattle.ppc_isa.specs.Map.{IsMap, IsHeld, AreApart}
 use Rattle.reg_map.specs.Moves.{moved, moved_gpr, held_in, content, with_content, IsPossible}
 use Rattle.reg_map.specs.Place.{holds, slot_of}
 use Rattle.plan_form.specs.Maps.{IsMapOver, IsContentOf}
-use Rattle.plan_form.specs.Full.{IsFullOver, IsMove}
-use Rattle.plan_form.specs.Plans.{Node, Leads, Leaves, IsWalk, IsValidPlan, exit_node, entry_node, last}
+use Rattle.plan_form.specs.Full.{IsFullOver}
+use Rattle.plan_form.specs.Plans.{Node, IsWalk, last}
 
 unfoldable pub map_of : Option ℕ → Option ℕ → Option ℕ → Map
 map_of x y z = record { ebx = x; esi = y; edi = z }
@@ -214,7 +211,7 @@ module _ (q : Problem) (candidates : List ℕ) (price : ℕ → ℕ → ℕ) (fu
   unfolding at_map
   can-move moves m n move cost from to possible is h =
       let inside = (full.moves (record { place = place; map = m; step = move; price = price place (moved_gpr m move) })).1
-          (record { place = before; from = from; possible = possible; to = subst (IsMapOver candidates) (sym is) to; price_is = refl }) in
+      (record { place = before; from = from; possible = possible; to = subst (IsMapOver candidates) (sym is) to; price_is = refl }) in
       let there : ◌≡◌ {A = Node} (record { place = place; map = n }) (record { place = place; map = moved m move }) = ap (λ (x : Map). let y : Node = record { place = place; map = x } in y) (sym is) in
       record {
         steps = Go move ∷ h.steps;
@@ -233,6 +230,7 @@ module _ (q : Problem) (candidates : List ℕ) (price : ℕ → ℕ → ℕ) (fu
       where
         out : (g : ℕ) → Can q (suc moves) (at_map (F (Some g))) (price place (held_in (content (F (Some g)) s)) + cost) → Can q (suc moves) (at_map (F (Some g))) (price place g + cost)
         out g w = subst (λ x. Can q (suc moves) (at_map (F (Some g))) (price place (held_in x) + cost)) (get (Some g)) w
+
         go : (b : Bool) → Can q moves (at_map (F (keep_if b g))) cost → Can q (suc moves) (at_map (F (Some g))) (cond b 0 (price place g) + cost)
         go true w = subst (Can q (suc moves) (at_map (F (Some g)))) (omega arith) (can-more q moves (at_map (F (Some g))) cost w)
         go false w = out g (can-move moves (F (Some g)) (F None) (Drop s) cost from to (slot, λ e. some-none g (sym (get (Some g)) ∙ e)) (put (Some g) None) w)
@@ -257,15 +255,15 @@ module _ (q : Problem) (candidates : List ℕ) (price : ℕ → ℕ → ℕ) (fu
       let ta = sub-keep-to m.ebx n.ebx in let tb = sub-keep-to m.esi n.esi in let tc = sub-keep-to m.edi n.edi in
       let sa = sub-same in let none = sub-none in
       let t2 = take-stage (λ x. map_of n.ebx n.esi x) 2 (omega arith) (λ x. refl) (λ x y. refl) 0 m.edi n.edi cost
-          to (map-sub candidates n _ _ _ to (sa n.ebx) (sa n.esi) (none n.edi)) h in
+      to (map-sub candidates n _ _ _ to (sa n.ebx) (sa n.esi) (none n.edi)) h in
       let t1 = take-stage (λ x. map_of n.ebx x kc) 1 (omega arith) (λ x. refl) (λ x y. refl) 1 m.esi n.esi _
-          (map-sub candidates n _ _ _ to (sa n.ebx) (sa n.esi) tc) (map-sub candidates n _ _ _ to (sa n.ebx) (none n.esi) tc) t2 in
+      (map-sub candidates n _ _ _ to (sa n.ebx) (sa n.esi) tc) (map-sub candidates n _ _ _ to (sa n.ebx) (none n.esi) tc) t2 in
       let t0 = take-stage (λ x. map_of x kb kc) 0 (omega arith) (λ x. refl) (λ x y. refl) 2 m.ebx n.ebx _
-          (map-sub candidates n _ _ _ to (sa n.ebx) tb tc) (map-sub candidates n _ _ _ to (none n.ebx) tb tc) t1 in
+      (map-sub candidates n _ _ _ to (sa n.ebx) tb tc) (map-sub candidates n _ _ _ to (none n.ebx) tb tc) t1 in
       let d2 = drop-stage (λ x. map_of ka kb x) 2 (omega arith) (λ x. refl) (λ x y. refl) 3 m.edi n.edi _
-          (map-sub candidates m _ _ _ from fa fb (sa m.edi)) (map-sub candidates m _ _ _ from fa fb (none m.edi)) t0 in
+      (map-sub candidates m _ _ _ from fa fb (sa m.edi)) (map-sub candidates m _ _ _ from fa fb (none m.edi)) t0 in
       let d1 = drop-stage (λ x. map_of ka x m.edi) 1 (omega arith) (λ x. refl) (λ x y. refl) 4 m.esi n.esi _
-          (map-sub candidates m _ _ _ from fa (sa m.esi) (sa m.edi)) (map-sub candidates m _ _ _ from fa (none m.esi) (sa m.edi)) d2 in
+      (map-sub candidates m _ _ _ from fa (sa m.esi) (sa m.edi)) (map-sub candidates m _ _ _ from fa (none m.esi) (sa m.edi)) d2 in
       let d0 = drop-stage (λ x. map_of x m.esi m.edi) 0 (omega arith) (λ x. refl) (λ x y. refl) 5 m.ebx n.ebx _
-          from (map-sub candidates m _ _ _ from (none m.ebx) (sa m.esi) (sa m.edi)) d1 in
+      from (map-sub candidates m _ _ _ from (none m.ebx) (sa m.esi) (sa m.edi)) d1 in
       subst (Can q 6 (record { place = place; map = m })) (omega arith) d0

@@ -99,7 +99,11 @@ fn add_offers(problem: &Problem, indexes: &[u16], arcs: &mut Vec<Vec<Arc>>) -> R
 }
 
 /// The edges from each place, whatever the order of the tables.
-pub fn all_arcs(alloc: Global, problem: &Problem, indexes: &[u16]) -> Result<Vec<Vec<Arc>>, NoMemory>
+pub fn all_arcs(
+    alloc: Global,
+    problem: &Problem,
+    indexes: &[u16],
+) -> Result<Vec<Vec<Arc>>, NoMemory>
     requires full { IsFull problem.now }
     requires indexes { IsIndex problem.now indexes.now }
     ensures { IfOk result (λ arcs. AreAllArcs problem.now (map (λ arcs. arcs.items) arcs.items)) }

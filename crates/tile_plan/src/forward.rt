@@ -31,7 +31,13 @@ fn relax(problem: &Problem, arcs: &[Arc], source: u32, from: &[u32], place: u32,
 }
 
 // Lowers the costs of a place by its own edges, until all are obeyed.
-fn settle(alloc: Global, problem: &Problem, arcs: &[Arc], place: u32, start: Vec<u32>) -> Result<Vec<u32>, NoMemory>
+fn settle(
+    alloc: Global,
+    problem: &Problem,
+    arcs: &[Arc],
+    place: u32,
+    start: Vec<u32>,
+) -> Result<Vec<u32>, NoMemory>
     requires arcs { AreArcs problem.now place arcs.now }
     requires start { AreReached problem.now place start.items }
     ensures reached { IfOk result (λ row. AreReached problem.now place row.items) }
@@ -88,7 +94,13 @@ fn row_of(rows: &Vec<Vec<u32>>, place: usize) -> &[u32]
 }
 
 // The costs of a place, by those of the places before it.
-fn costs_at(alloc: Global, problem: &Problem, arcs: &Vec<Vec<Arc>>, rows: &Vec<Vec<u32>>, place: u32) -> Result<Vec<u32>, NoMemory>
+fn costs_at(
+    alloc: Global,
+    problem: &Problem,
+    arcs: &Vec<Vec<Arc>>,
+    rows: &Vec<Vec<u32>>,
+    place: u32,
+) -> Result<Vec<u32>, NoMemory>
     requires full { IsFull problem.now }
     requires place { place < problem.now.places }
     requires arcs { AreAllArcs problem.now (map (λ arcs. arcs.items) arcs.now.items) }
@@ -98,7 +110,14 @@ fn costs_at(alloc: Global, problem: &Problem, arcs: &Vec<Vec<Arc>>, rows: &Vec<V
 {
     let mut row = start_costs(alloc, problem, place)?;
     for source in place.saturating_sub(3)..place {
-        relax(problem, arcs_of(arcs, source as usize), source, row_of(rows, source as usize), place, &mut row);
+        relax(
+            problem,
+            arcs_of(arcs, source as usize),
+            source,
+            row_of(rows, source as usize),
+            place,
+            &mut row,
+        );
     }
     let settled = settle(alloc, problem, arcs_of(arcs, place as usize), place, row)?;
     Ok(settled)
@@ -107,7 +126,12 @@ fn costs_at(alloc: Global, problem: &Problem, arcs: &Vec<Vec<Arc>>, rows: &Vec<V
 /// The least costs from the start: of each map at each place before the last, and of the exit map at the last place.
 ///
 /// `exit` is the index of the exit map.
-pub fn least_labels(alloc: Global, problem: &Problem, arcs: &Vec<Vec<Arc>>, exit: usize) -> Result<Labels, NoMemory>
+pub fn least_labels(
+    alloc: Global,
+    problem: &Problem,
+    arcs: &Vec<Vec<Arc>>,
+    exit: usize,
+) -> Result<Labels, NoMemory>
     requires full { IsFull problem.now }
     requires exit { IsAt problem.now problem.now.exit exit }
     requires arcs { AreAllArcs problem.now (map (λ arcs. arcs.items) arcs.now.items) }

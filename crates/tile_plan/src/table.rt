@@ -36,13 +36,21 @@ pub fn beyond(problem: &Problem, table: &Vec<Vec<u32>>, place: u32, left: usize,
 {
     match arc.step {
         Step::Lay(_) => {
-            weight_at(table, 7 * (problem.places - 1 - arc.place) as usize + 6, arc.to)
+            weight_at(
+                table,
+                7 * (problem.places - 1 - arc.place) as usize + 6,
+                arc.to,
+            )
         },
         Step::Go(_) => {
             if left == 0 {
                 NEVER
             } else {
-                weight_at(table, 7 * (problem.places - 1 - place) as usize + left - 1, arc.to)
+                weight_at(
+                    table,
+                    7 * (problem.places - 1 - place) as usize + left - 1,
+                    arc.to,
+                )
             }
         }
     }
@@ -74,7 +82,14 @@ fn end_weights(alloc: Global, problem: &Problem, place: u32) -> Result<Vec<u32>,
 }
 
 // The least weights of a place, with so many moves left.
-fn weights_at(alloc: Global, problem: &Problem, arcs: &[Arc], table: &Vec<Vec<u32>>, place: u32, left: usize) -> Result<Vec<u32>, NoMemory>
+fn weights_at(
+    alloc: Global,
+    problem: &Problem,
+    arcs: &[Arc],
+    table: &Vec<Vec<u32>>,
+    place: u32,
+    left: usize,
+) -> Result<Vec<u32>, NoMemory>
     requires full { IsFull problem.now }
     requires place { place ≤ last problem.now }
     requires left { left ≤ 6 }
@@ -97,7 +112,11 @@ fn weights_at(alloc: Global, problem: &Problem, arcs: &[Arc], table: &Vec<Vec<u3
 }
 
 /// The least weights of all places: row 7 * d + k for the place at d before the last, with k moves left.
-pub fn weights(alloc: Global, problem: &Problem, arcs: &Vec<Vec<Arc>>) -> Result<Vec<Vec<u32>>, NoMemory>
+pub fn weights(
+    alloc: Global,
+    problem: &Problem,
+    arcs: &Vec<Vec<Arc>>,
+) -> Result<Vec<Vec<u32>>, NoMemory>
     requires full { IsFull problem.now }
     requires arcs { AreAllArcs problem.now (map (λ arcs. arcs.items) arcs.now.items) }
     ensures table { IfOk result (λ table. IsTable problem.now (map (λ row. row.items) table.items)) }
@@ -106,7 +125,14 @@ pub fn weights(alloc: Global, problem: &Problem, arcs: &Vec<Vec<Arc>>) -> Result
     let mut table = Vec::new(alloc);
     for number in 0..7 * problem.places as usize {
         let place = problem.places - 1 - (number / 7) as u32;
-        let row = weights_at(alloc, problem, arcs[place as usize].as_slice(), &table, place, number % 7)?;
+        let row = weights_at(
+            alloc,
+            problem,
+            arcs[place as usize].as_slice(),
+            &table,
+            place,
+            number % 7,
+        )?;
         table.push(row)?;
     }
     Ok(table)

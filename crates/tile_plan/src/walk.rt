@@ -17,7 +17,15 @@ use std::alloc::Global;
 use word_kit::NoMemory;
 
 // Whether a least walk of this weight may begin with the edge.
-fn is_tight(problem: &Problem, table: &Vec<Vec<u32>>, place: u32, left: usize, index: usize, weight: u32, arc: &Arc) -> bool
+fn is_tight(
+    problem: &Problem,
+    table: &Vec<Vec<u32>>,
+    place: u32,
+    left: usize,
+    index: usize,
+    weight: u32,
+    arc: &Arc,
+) -> bool
     requires full { IsFull problem.now }
     requires place { place ≤ last problem.now }
     requires left { left ≤ 6 }
@@ -37,7 +45,15 @@ fn is_tight(problem: &Problem, table: &Vec<Vec<u32>>, place: u32, left: usize, i
 }
 
 // The first edge of those that a least walk of this weight may begin with.
-fn first_edge(problem: &Problem, arcs: &[Arc], table: &Vec<Vec<u32>>, place: u32, left: usize, index: usize, weight: u32) -> Arc
+fn first_edge(
+    problem: &Problem,
+    arcs: &[Arc],
+    table: &Vec<Vec<u32>>,
+    place: u32,
+    left: usize,
+    index: usize,
+    weight: u32,
+) -> Arc
     requires full { IsFull problem.now }
     requires place { place ≤ last problem.now }
     requires left { left ≤ 6 }
@@ -78,7 +94,13 @@ fn left_after(left: usize, step: Step) -> usize
 /// The first of the least plans.
 ///
 /// `entry` is the index of the entry map.
-pub fn first_walk(alloc: Global, problem: &Problem, arcs: &Vec<Vec<Arc>>, table: &Vec<Vec<u32>>, entry: usize) -> Result<Vec<Step>, NoMemory>
+pub fn first_walk(
+    alloc: Global,
+    problem: &Problem,
+    arcs: &Vec<Vec<Arc>>,
+    table: &Vec<Vec<u32>>,
+    entry: usize,
+) -> Result<Vec<Step>, NoMemory>
     requires full { IsFull problem.now }
     requires arcs { AreAllArcs problem.now (map (λ arcs. arcs.items) arcs.now.items) }
     requires table { IsTable problem.now (map (λ row. row.items) table.now.items) }
@@ -93,7 +115,15 @@ pub fn first_walk(alloc: Global, problem: &Problem, arcs: &Vec<Vec<Arc>>, table:
     let mut left = 6;
     let mut weight = weight_at(table, 7 * (problem.places - 1) as usize + 6, index);
     while weight > 0 {
-        let arc = first_edge(problem, arcs[place as usize].as_slice(), table, place, left, index, weight);
+        let arc = first_edge(
+            problem,
+            arcs[place as usize].as_slice(),
+            table,
+            place,
+            left,
+            index,
+            weight,
+        );
         weight -= 512 * arc.price + 1;
         left = left_after(left, arc.step);
         place = arc.place;

@@ -1,5 +1,5 @@
 use Rattle.plan_form.specs.Labels.{values_of}
-use Rattle.std.proofs.Common.{ap, arith, map}
+use Rattle.std.proofs.Common.{ap, arith}
 use Rattle.plan_form.specs.Labels.{label_at}
 use Rattle.plan_form.proofs.Counts.{few-maps}
 use Rattle.plan_form.proofs.Indexes.{map-once}

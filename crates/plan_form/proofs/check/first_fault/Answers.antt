@@ -1,5 +1,5 @@
 use Rattle.plan_form.specs.Labels.{values_of}
-use Rattle.std.proofs.Common.{length, map}
+use Rattle.std.proofs.Common.{length}
 use Rattle.plan_form.proofs.Faulty.{sound-on, moves-on, moves-kept, offers-on}
 use Rattle.plan_form.proofs.check.first_fault.Goals as goal
 

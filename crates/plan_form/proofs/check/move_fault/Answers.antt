@@ -1,5 +1,5 @@
 use Rattle.plan_form.specs.Labels.{values_of}
-use Rattle.std.proofs.Common.{subst, map}
+use Rattle.std.proofs.Common.{subst}
 use Rattle.plan_form.specs.Plans.{Node}
 use Rattle.plan_form.specs.declared.problem.Step.TheVariants.{Go}
 use Rattle.ppc_isa.specs.declared.map.Map.{Map}

@@ -1,4 +1,4 @@
-use Rattle.std.proofs.Common.{refl, map}
+use Rattle.std.proofs.Common.{refl}
 use Rattle.tile_plan.proofs.Edges.{move-more}
 use Rattle.tile_plan.proofs.arcs.add_moves.Goals as goal
 

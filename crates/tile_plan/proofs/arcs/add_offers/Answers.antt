@@ -1,6 +1,6 @@
 use Rattle.plan_form.specs.declared.problem.Offer.{Offer}
 use Rattle.plan_form.specs.declared.problem.Tile.TheVariants.{Base}
-use Rattle.std.proofs.Common.{◌≡◌, None, refl, length, map, arith}
+use Rattle.std.proofs.Common.{◌≡◌, None, refl, length, arith}
 use Rattle.std.proofs.lemmas.List.{length-map}
 use Rattle.tile_plan.proofs.Edges.{offer-more, contains-at}
 use Rattle.tile_plan.proofs.arcs.add_offers.Goals as goal

@@ -1,6 +1,6 @@
-use Rattle.std.proofs.Common.{◌≡◌, ℕ, ◌<◌, ◌≤◌, ◌+◌, ◌-◌, List, [], ◌∷◌, ◌++◌, length, get_or, map, refl, sym, subst, ap, ◌∙◌, arith}
+use Rattle.std.proofs.Common.{◌≡◌, ◌-◌, [], ◌∷◌, ◌++◌, length, get_or, map, sym, subst, ap, ◌∙◌, arith}
 use Rattle.std.proofs.lemmas.List.{length-map, map-append}
-use Rattle.tile_plan.specs.Forward.{AreForward, IsForwardRow, AreForwardLabels}
+use Rattle.tile_plan.specs.Forward.{AreForward, IsForwardRow}
 use Rattle.tile_plan.proofs.Leasts.{read-zero}
 use Rattle.tile_plan.proofs.Forwards.{forward-push}
 use Rattle.tile_plan.proofs.forward.least_labels.Goals as goal
@@ -27,10 +27,15 @@ returns c =
     let end = c.in_ok-row-2.ensures in
     let low = read-zero row index c.index.result.now c.index.ensures (omega (arith, c.requires.exit.within, end.reached.len)) in
     let last_row : c.push-2.new.self.items ≡ get_or row index 0 ∷ [] =
-        c.in_ok-push-2.ensures.items ∙ ap (λ xs. xs ++ c.index.result.now ∷ []) c.new-end.ensures.items ∙ ap (λ v. v ∷ []) low in
+    c.in_ok-push-2.ensures.items ∙ ap (λ xs. xs ++ c.index.result.now ∷ []) c.new-end.ensures.items ∙ ap (λ v. v ∷ []) low in
     let e = ap (map (λ r. r.items)) c.in_ok-push-3.ensures.items ∙ map-append (λ r. r.items) c.loop-place.rows.items (c.push-2.new.self ∷ []) in
     record {
-      rows = rows; row = row; index = index;
-      forward = c.loop-place.invariant.rows; len = len; end = end; at = c.requires.exit;
+      rows = rows;
+      row = row;
+      index = index;
+      forward = c.loop-place.invariant.rows;
+      len = len;
+      end = end;
+      at = c.requires.exit;
       is = e ∙ ap (λ xs. rows ++ xs ∷ []) last_row;
     }

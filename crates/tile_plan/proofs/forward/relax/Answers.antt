@@ -1,4 +1,4 @@
-use Rattle.std.proofs.Common.{◌≡◌, ℕ, ◌<◌, ◌≤◌, ◌+◌, List, length, get_or, refl, sym, subst, ap, ◌∙◌, arith}
+use Rattle.std.proofs.Common.{◌<◌, ◌+◌, length, get_or, refl, sym, subst, arith}
 use Rattle.plan_form.specs.declared.problem.Step.TheVariants.{Go}
 use Rattle.reg_map.specs.declared.moves.Move.TheVariants.{Drop}
 use Rattle.tile_plan.specs.declared.arcs.Arc.{Arc}
@@ -34,4 +34,5 @@ loop-arc-preserved c =
           (relax-kept q c.args.source c.args.place arcs from n arc none old row c.loop-arc-test.true refl (λ _. omega (arith, low, w.if-cost-index.false)) h)
       | else-arc-place w ↦
           subst (λ v. IsRelaxed q c.args.place arcs (n + 1) from old v.items) (sym w.row-is)
-          (relax-kept q c.args.source c.args.place arcs from n arc none old row c.loop-arc-test.true refl (λ e. absurd (w.if-arc-place.false e)) h) ]
+          (relax-kept q c.args.source c.args.place arcs from n arc none old row c.loop-arc-test.true refl (λ e. absurd (w.if-arc-place.false e)) h)
+    ]

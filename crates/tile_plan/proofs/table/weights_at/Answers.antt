@@ -1,5 +1,4 @@
-use Rattle.std.proofs.Common.{rules, ◌≡◌, ℕ, ◌<◌, ◌≤◌, ◌+◌, ◌-◌, ◌*◌, List, [], length, get_or, set, map, refl, sym, subst, ap, ◌∙◌, arith}
-use Rattle.std.proofs.lemmas.List.{get_or_read}
+use Rattle.std.proofs.Common.{◌<◌, ◌+◌, ◌-◌, ◌*◌, length, get_or, refl, sym, subst, arith}
 use Rattle.plan_form.proofs.Costs.{price-small}
 use Rattle.tile_plan.proofs.Leasts.{IsPartRow, read-zero, row-kept, row-lowered, row-whole}
 use Rattle.plan_form.specs.declared.problem.Step.TheVariants.{Go}
@@ -36,7 +35,8 @@ loop-arc-preserved c =
       | else-behind-lt-NEVER w ↦
           let high = (h.parts arc.from good.from).high in
           subst (λ v. IsPartRow q c.args.place c.args.left limit arcs (n + 1) v.items) (sym w.row-is)
-          (row-kept q c.args.place c.args.left limit arcs n old arc none b c.loop-arc-test.true refl c.beyond-behind.ensures (omega (arith, high, w.if-behind-lt-NEVER.false)) h) ]
+          (row-kept q c.args.place c.args.left limit arcs n old arc none b c.loop-arc-test.true refl c.beyond-behind.ensures (omega (arith, high, w.if-behind-lt-NEVER.false)) h)
+    ]
 
 pub returns : goal.returns
 returns c =

@@ -1,11 +1,11 @@
-use Rattle.std.proofs.Common.{◌≡◌, ◌⊎◌, inl, inr, ℕ, ◌<◌, ◌≤◌, ◌+◌, refl, sym, ap, ◌∙◌, subst, arith, length, get_or, true, false, List, Some, None, MatchOption, IsTrue, Option}
+use Rattle.std.proofs.Common.{◌≡◌, ℕ, ◌≤◌, sym, ◌∙◌, subst, arith, get_or, MatchOption, Option}
 use Rattle.std.proofs.lemmas.Bool.{false≢true}
 use Rattle.plan_form.specs.Plans.{order}
 use Rattle.plan_form.specs.declared.problem.Step.TheVariants.{Go}
 use Rattle.reg_map.specs.declared.moves.Move.TheVariants.{Drop}
 use Rattle.tile_plan.specs.declared.arcs.Arc.{Arc}
 use Rattle.tile_plan.specs.Arcs.{IsArc, node_at}
-use Rattle.tile_plan.specs.Choice.{IsTight, IsChoice}
+use Rattle.tile_plan.specs.Choice.{IsTight}
 use Rattle.tile_plan.proofs.Orders.{order-small}
 use Rattle.tile_plan.proofs.Firsts.{first-more}
 use Rattle.tile_plan.proofs.walk.first_edge.Goals as goal
@@ -40,7 +40,8 @@ loop-arc-preserved c =
             first = first-more q c.args.left c.args.index c.args.weight arcs n none c.loop-arc.least c.if-is_tight.least c.loop-arc-test.true
                 (omega (arith, w.least-is)) (λ tight. absurd (false≢true (sym w.if-is_tight.false ∙ c.is_tight.ensures.1 tight))) first;
             chosen = subst (λ o. Chosen o c.if-is_tight.least) (sym w.chosen-is) (subst (Chosen c.loop-arc.chosen) (sym w.least-is) c.loop-arc.invariant.chosen);
-          } ]
+          }
+    ]
 
 pub unreachable-requires : goal.unreachable-requires
 unreachable-requires c =
@@ -51,7 +52,7 @@ unreachable-requires c =
     let k : ℕ = some.1.0 in
     let is : get_or c.args.arcs.now k arc ≡ arc = some.1.2 in
     let low : c.loop-arc.least ≤ order q arc.step = subst (λ (a : Arc). c.loop-arc.least ≤ order q a.step) is
-        (c.loop-arc.invariant.first k arc (omega (arith, some.1.1, c.loop-arc-test.false)) (subst (IsTight q c.args.left c.args.index c.args.weight) (sym is) some.2)) in
+    (c.loop-arc.invariant.first k arc (omega (arith, some.1.1, c.loop-arc-test.false)) (subst (IsTight q c.args.left c.args.index c.args.weight) (sym is) some.2)) in
     let good : IsArc q c.args.place arc = subst (IsArc q c.args.place) is (c.requires.arcs.sound k arc some.1.1) in
     let small = order-small q full.0 full.1 full.2 (node_at q c.args.place arc.from) arc.step arc.price (node_at q arc.place arc.to) good.leads in
     let Chosen = λ (o : Option Arc) (m : ℕ). MatchOption o (m ≡ 18446744073709551615) (λ a. IsArc q c.args.place a × IsTight q c.args.left c.args.index c.args.weight a × (order q a.step ≡ m)) in
@@ -68,6 +69,6 @@ returns c =
       tight = chosen.1;
       first = λ other inside tight.
           let low : c.loop-arc.least ≤ order q other.step = subst (λ (a : Arc). c.loop-arc.least ≤ order q a.step) inside.2
-              (c.loop-arc.invariant.first inside.0 other (omega (arith, inside.1, c.loop-arc-test.false)) (subst (IsTight q c.args.left c.args.index c.args.weight) (sym inside.2) tight)) in
+          (c.loop-arc.invariant.first inside.0 other (omega (arith, inside.1, c.loop-arc-test.false)) (subst (IsTight q c.args.left c.args.index c.args.weight) (sym inside.2) tight)) in
           omega (arith, low, chosen.2);
     }

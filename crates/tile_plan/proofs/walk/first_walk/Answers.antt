@@ -1,13 +1,12 @@
-use Rattle.std.proofs.Common.{◌≡◌, ◌⊎◌, inl, inr, ℕ, ◌<◌, ◌≤◌, ◌+◌, ◌-◌, ◌*◌, refl, sym, ap, ◌∙◌, subst, arith, length, get_or, map, List, [], ◌∷◌, ◌++◌}
+use Rattle.std.proofs.Common.{◌≡◌, ◌<◌, ◌*◌, refl, sym, ap, ◌∙◌, subst, arith, length, map, []}
 use Rattle.std.proofs.lemmas.List.{append-nil}
 use Rattle.std.proofs.lemmas.List.{get_or-map, length-map}
-use Rattle.plan_form.specs.declared.problem.Step.{Step}
 use Rattle.plan_form.specs.Plans.{entry_node}
 use Rattle.plan_form.proofs.Costs.{leaves-once}
 use Rattle.tile_plan.specs.Arcs.{AreArcs, node_at}
 use Rattle.tile_plan.specs.Least.{IsLeast}
 use Rattle.tile_plan.specs.Choice.{IsFirst}
-use Rattle.tile_plan.proofs.Firsts.{IsWalked, walked-tight, walked-on, walk-begins, walked-as, first-end}
+use Rattle.tile_plan.proofs.Firsts.{walked-tight, walked-on, walk-begins, walked-as, first-end}
 use Rattle.tile_plan.proofs.walk.first_walk.Goals as goal
 
 pub loop-weight-init : goal.loop-weight-init
@@ -61,7 +60,7 @@ returns c =
     let h = c.loop-weight.invariant in
     let zero : c.loop-weight.weight ≡ 0 = omega (arith, c.loop-weight-test.false) in
     let first = h.onward [] (subst (λ n. IsFirst q c.loop-weight.left (node_at q c.loop-weight.place c.loop-weight.index) [] n) (sym zero)
-        (first-end q c.loop-weight.left _ (subst (IsLeast q c.loop-weight.left (node_at q c.loop-weight.place c.loop-weight.index)) zero h.least))) in
+    (first-end q c.loop-weight.left _ (subst (IsLeast q c.loop-weight.left (node_at q c.loop-weight.place c.loop-weight.index)) zero h.least))) in
     record {
       weight = h.start;
       least = h.start_least;
