@@ -1,0 +1,7 @@
+pub mod Bounds
+pub mod Costs
+pub mod Counts
+mod Faulty
+pub mod Indexes
+mod Keyed
+mod Parts

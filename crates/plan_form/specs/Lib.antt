@@ -1,0 +1,6 @@
+pub mod Maps
+pub mod Plans
+pub mod Full
+pub mod Labels
+pub mod Faults
+pub mod Keys

@@ -1,0 +1,10 @@
+mod Edges
+mod Leasts
+mod Orders
+mod Firsts
+mod Chosen
+mod Switches
+mod Reaches
+mod Reached
+mod Forwards
+mod Certificates

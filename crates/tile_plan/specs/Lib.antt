@@ -1,0 +1,6 @@
+pub mod Arcs
+pub mod Least
+pub mod Choice
+pub mod Reach
+pub mod Forward
+pub mod Solution
