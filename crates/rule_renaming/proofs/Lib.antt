@@ -1,2 +1,4 @@
 pub mod Hosts
 pub mod Guests
+pub mod Parameters
+pub mod Bridge
