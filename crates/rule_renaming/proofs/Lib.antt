@@ -2,3 +2,4 @@ pub mod Hosts
 pub mod Guests
 pub mod Parameters
 pub mod Bridge
+pub mod Done
