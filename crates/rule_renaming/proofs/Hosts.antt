@@ -7,13 +7,13 @@ use Rattle.ia_codec.specs.declared.op.Operand.{Operand}
 use Rattle.ia_codec.specs.declared.op.Operand.TheVariants.{Reg, Abs, Base, Pair}
 use Rattle.ia_codec.specs.declared.op.Op.{Op}
 use Rattle.ia_codec.specs.declared.op.Op.TheVariants.{AluTo, AluFrom, AluImm, TestReg, TestImm, Unary, Imul, MovTo, MovFrom, MovImm, MovToImm, MovHalfTo, MovByteTo, MovByteFrom, Shift, ShiftByCl, Lea, Extend, Bswap, Set, Cmov, Bsr, Cdq}
-use Rattle.ia_codec.specs.declared.op.UnaryOp.TheVariants.{Not, Neg}
+use Rattle.ia_codec.specs.declared.op.UnaryOp.TheVariants.{Not, Neg, Mul, Imul1}
 use Rattle.ia_codec.specs.declared.op.ExtendOp.TheVariants.{MovzxByte, MovzxHalf, MovsxByte, MovsxHalf}
 use Rattle.ia_codec.specs.Effect.{Flags, HostValues, HostEffect}
 use Rattle.ia_codec.specs.Rows.{host_row}
 use Rattle.runs.specs.Machine.{Outcome, Goes, Asks, Ends}
 use Rattle.machines.specs.Memory.{update, load, store, each_byte, Rights}
-use Rattle.machines.specs.Host.{Choice, Core, Host, Place, Register, Memory, place_of, put_at, values_of, chosen_word, chosen_flags, has_result, extend_size, address_in, byte_for, bind, reads, puts, leaves, does, choice_at, goes_to}
+use Rattle.machines.specs.Host.{Choice, Core, Host, Place, Register, Memory, place_of, put_at, values_of, chosen_word, chosen_flags, has_result, extend_size, address_in, byte_for, puts_both, bind, reads, puts, leaves, does, choice_at, goes_to}
 use Rattle.symbolic_tiles.specs.Perform.{is_jump, op_outcome, core_behind, perform}
 use Rattle.symbolic_tiles.specs.Relocated.{operand_at, op_at}
 use Rattle.symbolic_tiles.specs.Row.{span}
@@ -140,6 +140,8 @@ module _ (m : Match) (area : ℕ) (host : Rights) (U O : ℕ → Type 0) where
   IsNamed (TestImm a imm) = IsOwn 4 a
   IsNamed (Unary Not on) = IsOwn 4 on
   IsNamed (Unary Neg on) = IsOwn 4 on
+  IsNamed (Unary Mul on) = IsOwn 4 on
+  IsNamed (Unary Imul1 on) = IsOwn 4 on
   IsNamed (Imul to from) = U to × IsOwn 4 from
   IsNamed (MovTo to from) = IsWithin 4 to × U from
   IsNamed (MovFrom to from) = U to × IsWithin 4 from
@@ -340,6 +342,22 @@ module _ (m : Match) (area : ℕ) (host : Rights) (U O : ℕ → Type 0) where
             let d = ap (λ (v : HostValues). byte_for (operand_at area (placed_operand m operand)) core (F v).result) (values_same c 0 y core other r1) ∙ byte_same operand core other v own r1 in
             subst (λ k. Both R (puts host core (there 1 operand core) k) (puts host other (here 1 operand other) (byte_for (operand_at area operand) other v))) (sym d) (put_own 1 operand (byte_for (operand_at area operand) other v) core other own r1)
 
+    -- a product of eax, whose halves go to eax and edx
+    both_put : (e : HostEffect) (core other : Core) → R core other → R (puts_both e core) (puts_both e other)
+    both_put e core other r1 =
+        put_own 4 (Reg 2) e.high (put_at (flagged e.flags core) (Register 0) e.result) (put_at (flagged e.flags other) (Register 0) e.result) (names.temps 2 (omega arith))
+        (put_own 4 (Reg 0) e.result (flagged e.flags core) (flagged e.flags other) (names.temps 0 (omega arith)) (with_flags e.flags core other r1))
+
+    multiplies_it : (F : HostValues → HostEffect) (c : Choice) (core other : Core) (p q : Option ℕ) → R core other → p ≡ q →
+        Both R (bind p (λ y. Some (puts_both (F (values_of c core (core.regs 0) y)) core))) (bind q (λ y. Some (puts_both (F (values_of c other (other.regs 0) y)) other)))
+    multiplies_it F c core other p q r1 e = subst (λ o. Both R (bind o (λ y. Some (puts_both (F (values_of c core (core.regs 0) y)) core))) (bind q (λ y. Some (puts_both (F (values_of c other (other.regs 0) y)) other)))) (sym e) (by_value q)
+      where
+        by_value : (q : Option ℕ) → Both R (bind q (λ y. Some (puts_both (F (values_of c core (core.regs 0) y)) core))) (bind q (λ y. Some (puts_both (F (values_of c other (other.regs 0) y)) other)))
+        by_value None = tt
+        by_value (Some y) =
+            let d = values_same c (core.regs 0) y core other r1 ∙ ap (λ k. values_of c other k y) (r1.regs 0 (names.temps 0 (omega arith))) in
+            subst (λ v. R (puts_both (F v) core) (puts_both (F (values_of c other (other.regs 0) y)) other)) (sym d) (both_put (F (values_of c other (other.regs 0) y)) core other r1)
+
     reg : (r : ℕ) (core other : Core) → U r → R core other → Some (core.regs (register_of m r)) ≡ Some (other.regs r)
     reg r core other u r1 = ap Some (r1.regs r u)
 
@@ -362,6 +380,8 @@ module _ (m : Match) (area : ℕ) (host : Rights) (U O : ℕ → Type 0) where
     op_renamed (TestImm a imm) c core other named far r1 = change (host_row (TestImm a imm)) false c 4 a core other _ _ named r1 (the_same imm)
     op_renamed (Unary Not on) c core other named far r1 = sets_own (host_row (Unary Not on)) c 4 on core other _ _ named r1 (read_own 4 on core other named r1)
     op_renamed (Unary Neg on) c core other named far r1 = sets_own (host_row (Unary Neg on)) c 4 on core other _ _ named r1 (read_own 4 on core other named r1)
+    op_renamed (Unary Mul on) c core other named far r1 = multiplies_it (host_row (Unary Mul on)) c core other _ _ r1 (read_own 4 on core other named r1)
+    op_renamed (Unary Imul1 on) c core other named far r1 = multiplies_it (host_row (Unary Imul1 on)) c core other _ _ r1 (read_own 4 on core other named r1)
     op_renamed (Imul to from) c core other named far r1 = change (host_row (Imul to from)) true c 4 (Reg to) core other _ _ named.0 r1 (read_own 4 from core other named.1 r1)
     op_renamed (MovTo to from) c core other named far r1 = sets_it (host_row (MovTo to from)) c 4 to core other _ _ named.0 far.1 r1 (reg from core other named.1 r1)
     op_renamed (MovFrom to from) c core other named far r1 = sets_own (host_row (MovFrom to from)) c 4 (Reg to) core other _ _ named.0 r1 (read 4 from core other named.1 far.0 r1)
@@ -401,6 +421,8 @@ module _ (m : Match) (area : ℕ) (host : Rights) (U O : ℕ → Type 0) where
     loads_same (TestImm a imm) core other named r1 = refl
     loads_same (Unary Not on) core other named r1 = refl
     loads_same (Unary Neg on) core other named r1 = refl
+    loads_same (Unary Mul on) core other named r1 = refl
+    loads_same (Unary Imul1 on) core other named r1 = refl
     loads_same (Imul to from) core other named r1 = refl
     loads_same (MovTo to from) core other named r1 = refl
     loads_same (MovFrom to from) core other named r1 = summed_same 4 from core other named.1 r1
@@ -428,6 +450,8 @@ module _ (m : Match) (area : ℕ) (host : Rights) (U O : ℕ → Type 0) where
     stores_same (TestImm a imm) core other named r1 = refl
     stores_same (Unary Not on) core other named r1 = refl
     stores_same (Unary Neg on) core other named r1 = refl
+    stores_same (Unary Mul on) core other named r1 = refl
+    stores_same (Unary Imul1 on) core other named r1 = refl
     stores_same (Imul to from) core other named r1 = refl
     stores_same (MovTo to from) core other named r1 = summed_same 4 to core other named.0 r1
     stores_same (MovFrom to from) core other named r1 = refl
@@ -462,6 +486,8 @@ module _ (m : Match) (area : ℕ) (host : Rights) (U O : ℕ → Type 0) where
     calm_there (TestImm a imm) named = λ choices core. (refl, refl)
     calm_there (Unary Not on) named = λ choices core. (refl, refl)
     calm_there (Unary Neg on) named = λ choices core. (refl, refl)
+    calm_there (Unary Mul on) named = λ choices core. (refl, refl)
+    calm_there (Unary Imul1 on) named = λ choices core. (refl, refl)
     calm_there (Imul to from) named = λ choices core. (refl, refl)
     calm_there (MovTo to from) named = λ choices core. (refl, refl)
     calm_there (MovFrom to from) named = λ choices core. (refl, refl)
@@ -489,6 +515,8 @@ module _ (m : Match) (area : ℕ) (host : Rights) (U O : ℕ → Type 0) where
     calm_here (TestImm a imm) named = λ choices core. (refl, refl)
     calm_here (Unary Not on) named = λ choices core. (refl, refl)
     calm_here (Unary Neg on) named = λ choices core. (refl, refl)
+    calm_here (Unary Mul on) named = λ choices core. (refl, refl)
+    calm_here (Unary Imul1 on) named = λ choices core. (refl, refl)
     calm_here (Imul to from) named = λ choices core. (refl, refl)
     calm_here (MovTo to from) named = λ choices core. (refl, refl)
     calm_here (MovFrom to from) named = λ choices core. (refl, refl)

@@ -1,5 +1,9 @@
+pub mod Slots
 pub mod Hosts
 pub mod Guests
 pub mod Parameters
 pub mod Bridge
 pub mod Done
+pub mod NamedWords
+pub mod NamedOps
+pub mod Written
