@@ -7,3 +7,5 @@ pub mod Done
 pub mod NamedWords
 pub mod NamedOps
 pub mod Written
+pub mod PlainNames
+pub mod Whole

@@ -138,7 +138,7 @@ module _ (slots : List Bool) (m : Match) where
   named_filled j true _ is = absurd is
 
   -- the words over parameters, with their constants and the target
-  pub filled_words : ℕ → List Guest → List Instr → List Instr
+  unfoldable pub filled_words : ℕ → List Guest → List Instr → List Instr
   filled_words j (guest ∷ guests) (i ∷ is) = (if guest.free then filled m j i else i) ∷ filled_words (j + 1) guests is
   filled_words j guests is = []
 
