@@ -31,7 +31,7 @@ load_kind Lbz d a imm v = refl
 load_kind Lhz d a imm v = refl
 load_kind Lha d a imm v = refl
 
-store_kind : (op : StoreOp) (s : ℕ) (a : ℕ) (imm : ℕ) (v : GuestValues) → (guest_row (Store op s a imm) v).kind ≡ StoreAccess
+pub store_kind : (op : StoreOp) (s : ℕ) (a : ℕ) (imm : ℕ) (v : GuestValues) → (guest_row (Store op s a imm) v).kind ≡ StoreAccess
 store_kind Stw s a imm v = refl
 store_kind Stb s a imm v = refl
 store_kind Sth s a imm v = refl
@@ -42,7 +42,7 @@ load_update_kind Lbzu d a imm v = refl
 load_update_kind Lhzu d a imm v = refl
 load_update_kind Lhau d a imm v = refl
 
-store_update_kind : (op : StoreUpdateOp) (s : ℕ) (a : ℕ) (imm : ℕ) (v : GuestValues) → (guest_row (StoreUpdate op s a imm) v).kind ≡ StoreAccess
+pub store_update_kind : (op : StoreUpdateOp) (s : ℕ) (a : ℕ) (imm : ℕ) (v : GuestValues) → (guest_row (StoreUpdate op s a imm) v).kind ≡ StoreAccess
 store_update_kind Stwu s a imm v = refl
 store_update_kind Stbu s a imm v = refl
 store_update_kind Sthu s a imm v = refl
@@ -101,7 +101,7 @@ load_indexed_kind Lhax d a b v = refl
 load_indexed_kind Lwbrx d a b v = refl
 load_indexed_kind Lhbrx d a b v = refl
 
-store_indexed_kind : (op : StoreIndexedOp) (s : ℕ) (a : ℕ) (b : ℕ) (v : GuestValues) → (guest_row (StoreIndexed op s a b) v).kind ≡ StoreAccess
+pub store_indexed_kind : (op : StoreIndexedOp) (s : ℕ) (a : ℕ) (b : ℕ) (v : GuestValues) → (guest_row (StoreIndexed op s a b) v).kind ≡ StoreAccess
 store_indexed_kind Stwx s a b v = refl
 store_indexed_kind Stbx s a b v = refl
 store_indexed_kind Sthx s a b v = refl
@@ -114,7 +114,7 @@ load_indexed_update_kind Lbzux d a b v = refl
 load_indexed_update_kind Lhzux d a b v = refl
 load_indexed_update_kind Lhaux d a b v = refl
 
-store_indexed_update_kind : (op : StoreIndexedUpdateOp) (s : ℕ) (a : ℕ) (b : ℕ) (v : GuestValues) → (guest_row (StoreIndexedUpdate op s a b) v).kind ≡ StoreAccess
+pub store_indexed_update_kind : (op : StoreIndexedUpdateOp) (s : ℕ) (a : ℕ) (b : ℕ) (v : GuestValues) → (guest_row (StoreIndexedUpdate op s a b) v).kind ≡ StoreAccess
 store_indexed_update_kind Stwux s a b v = refl
 store_indexed_update_kind Stbux s a b v = refl
 store_indexed_update_kind Sthux s a b v = refl

@@ -5,3 +5,5 @@ pub mod Windows
 pub mod Accesses
 pub mod Sound
 pub mod Laid
+pub mod Fields
+pub mod Shapes
