@@ -1,5 +1,5 @@
 -- When a rule is sound. This project's own.
-use Rattle.std.specs.Prelude.{◌≡◌, ℕ, ◌+◌, ◌/◌, ◌%◌, ◌^◌, ◌==◌, ◌&&◌, nat_lt, if◌then◌else◌, Bool, List, map as list_map, Option, Some, None}
+use Rattle.std.specs.Prelude.{◌≡◌, ℕ, ◌+◌, ◌^◌, ◌==◌, ◌&&◌, not, nat_lt, bit_and, if◌then◌else◌, Bool, List, map as list_map, Option, Some, None}
 use Rattle.std.specs.List.{list_any, range_with_len}
 use Rattle.ppc_isa.specs.declared.instr.Instr.{Instr}
 use Rattle.ppc_isa.specs.declared.map.Map.{Map}
@@ -23,9 +23,13 @@ use Rattle.rule_meaning.specs.Accesses.{AccessWindow}
 abbrev pub location_named : Match → ℕ → ℕ
 location_named m k = if nat_lt k 6 then m.gpr (k + 1) else named k
 
+-- name k is one of the dead
+abbrev pub is_dead_name : Goal → ℕ → Bool
+is_dead_name goal k = not (bit_and goal.dead.bits (2 ^ k) == 0)
+
 -- the location is that of a dead name
 unfoldable pub dead_of : Goal → Match → ℕ → Bool
-dead_of goal m x = list_any (λ k. goal.dead.bits / 2 ^ k % 2 == 1 && location_named m k == x) (range_with_len 0 20)
+dead_of goal m x = list_any (λ k. is_dead_name goal k && location_named m k == x) (range_with_len 0 20)
 
 -- the condition has the number of a body's take, and there is none where it has none
 abbrev pub IsConditionOf : Option ℕ → Option Condition → Type 0

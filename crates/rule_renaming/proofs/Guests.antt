@@ -18,7 +18,7 @@ use Rattle.rule_meaning.specs.Windows.{everywhere, behind_row, loads_of, stores_
 use Rattle.symbolic_tiles.proofs.Memory.{update_same, update_other}
 use Rattle.row_laws.proofs.Instructions.{Instr, Immediate, LogicImmediate, CompareImmediate, Rotate, Arithmetic, ArithmeticUnary, Logic, ShiftImmediate, LogicUnary, Compare, MoveFromCr, MoveToCr, MoveFromSpr, MoveToSpr, Sync, MoveCrField, CrLogic, Isync, Load, Store, LoadUpdate, StoreUpdate, LoadIndexed, StoreIndexed, LoadIndexedUpdate, StoreIndexedUpdate, BranchConditional, ImmediateOp, Addi, Addis, Addic, AddicRecord, Subfic, Mulli, RotateOp, Rlwinm, Rlwnm, Rlwimi, Lwz, Lbz, Lhz, Lha, Stw, Stb, Sth, Lwzu, Lbzu, Lhzu, Lhau, Stwu, Stbu, Sthu, Lwzx, Lbzx, Lhzx, Lhax, Lwbrx, Lhbrx, Stwx, Stbx, Sthx, Stwbrx, Sthbrx, Lwzux, Lbzux, Lhzux, Lhaux, Stwux, Stbux, Sthux}
 
-is_same : (x n : ℕ) → (x ≡ n) ⊎ (x ≢ n)
+pub is_same : (x n : ℕ) → (x ≡ n) ⊎ (x ≢ n)
 is_same x n = by_test (eqb x n) refl
   where
     by_test : (b : Bool) → eqb x n ≡ b → (x ≡ n) ⊎ (x ≢ n)

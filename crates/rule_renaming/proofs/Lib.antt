@@ -9,3 +9,4 @@ pub mod NamedOps
 pub mod Written
 pub mod PlainNames
 pub mod Whole
+pub mod Addition

@@ -12,7 +12,7 @@ use Rattle.rule_body.specs.declared.goal.Goal.{Goal}
 use Rattle.rule_body.specs.Templates.{named}
 use Rattle.rule_meaning.specs.Matches.{Match}
 use Rattle.rule_meaning.specs.LaidWords.{register_field, bound}
-use Rattle.rule_meaning.specs.Sound.{location_named, dead_of}
+use Rattle.rule_meaning.specs.Sound.{is_dead_name, location_named, dead_of}
 use Rattle.rule_renaming.specs.Plain.{plain}
 use Rattle.rule_renaming.proofs.Guests.{GuestNames, IsNamedWord, AreNamedWords}
 
@@ -139,10 +139,10 @@ module _ (goal : Goal) (m : Match) where
   dead_follows : (y z : ℕ) → Follows y z → dead_of goal (plain m) y ≡ true → dead_of goal m z ≡ true
   unfolding dead_of
   dead_follows y z follows dead =
-      let w = Any-from_list_any (λ k. goal.dead.bits / 2 ^ k % 2 == 1 && location_named (plain m) k == y) (range_with_len 0 20) dead in
-      let b = both_true (goal.dead.bits / 2 ^ w.1 % 2 == 1) (location_named (plain m) w.1 == y) w.4 in
-      list_any-from_Any (λ k. goal.dead.bits / 2 ^ k % 2 == 1 && location_named m k == z) (range_with_len 0 20)
-      (w.0, w.1, w.2, w.3, holds_both (goal.dead.bits / 2 ^ w.1 % 2 == 1) (location_named m w.1 == z) b.0 (equal (location_named m w.1) z (follows w.1 (is_number (location_named (plain m) w.1) y b.1))))
+      let w = Any-from_list_any (λ k. is_dead_name goal k && location_named (plain m) k == y) (range_with_len 0 20) dead in
+      let b = both_true (is_dead_name goal w.1) (location_named (plain m) w.1 == y) w.4 in
+      list_any-from_Any (λ k. is_dead_name goal k && location_named m k == z) (range_with_len 0 20)
+      (w.0, w.1, w.2, w.3, holds_both (is_dead_name goal w.1) (location_named m w.1 == z) b.0 (equal (location_named m w.1) z (follows w.1 (is_number (location_named (plain m) w.1) y b.1))))
 
   alive_before : (y z : ℕ) → Follows y z → dead_of goal m z ≡ false → dead_of goal (plain m) y ≡ false
   alive_before y z follows alive = by_dead (dead_of goal (plain m) y) refl

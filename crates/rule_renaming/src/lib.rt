@@ -4,4 +4,4 @@
 
 mod laws;
 
-pub use laws::one_instance_is_enough;
+pub use laws::{addition_is_sound, one_instance_is_enough};
