@@ -1,9 +1,9 @@
 -- The table of shapes is the machine's: an op does what its sources, its row and its destination say. This project's own.
-use Rattle.std.proofs.Common.{◌≡◌, ℕ, Bool, true, false, refl}
+use Rattle.std.proofs.Common.{refl}
 use Rattle.ia_codec.specs.declared.op.AluOp.TheVariants.{Add, Or, Adc, Sbb, And, Sub, Xor, Cmp}
 use Rattle.ia_codec.specs.declared.op.ShiftOp.TheVariants.{Rol, Ror, Shl, Shr, Sar}
 use Rattle.ia_codec.specs.declared.op.ExtendOp.TheVariants.{MovzxByte, MovzxHalf, MovsxByte, MovsxHalf}
-use Rattle.ia_codec.specs.declared.op.UnaryOp.TheVariants.{Not, Neg, Mul, Imul1, Div, Idiv}
+use Rattle.ia_codec.specs.declared.op.UnaryOp.TheVariants.{Not, Neg, Mul, Imul1}
 use Rattle.ia_codec.specs.declared.op.Op.TheVariants.{AluTo, AluFrom, AluImm, TestReg, TestImm, Unary, Imul, MovTo, MovFrom, MovImm, MovToImm, MovHalfTo, MovByteTo, MovByteFrom, Shift, ShiftByCl, Lea, Extend, Bswap, Set, Cmov, Bsr, Cdq}
 use Rattle.rule_body.specs.Ops.{is_straight}
 use Rattle.rule_meaning.specs.Shapes.{OpsHaveShapes, OpsLeaveAtMost}

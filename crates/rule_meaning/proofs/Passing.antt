@@ -1,14 +1,13 @@
 -- A rule's words one after another: where they go on, what they load and store, and the next word behind them. This
 -- project's own.
-use Rattle.std.proofs.Common.{◌≡◌, ℕ, zero, suc, ◌+◌, ◌%◌, ◌^◌, Bool, true, false, cond, ◌⊎◌, inl, inr, ⊎_elim, List, [], ◌∷◌, ◌++◌, Contains, refl, sym, ap, ◌∙◌, subst, arith}
+use Rattle.std.proofs.Common.{◌≡◌, ℕ, zero, suc, ◌+◌, Bool, true, false, cond, ⊎_elim, List, [], ◌∷◌, Contains, refl, sym, ap, ◌∙◌, subst}
 use Rattle.std.proofs.lemmas.List.Elements.{Contains-append_cases}
 use Rattle.space.specs.declared.call.End.TheVariants.{Outside}
 use Rattle.runs.specs.Machine.{Outcome, Goes, Asks, Ends}
 use Rattle.ppc_isa.specs.declared.instr.Instr.{Instr}
-use Rattle.ppc_isa.specs.Effect.{Access, NoAccess, LoadAccess, StoreAccess}
 use Rattle.machines.specs.Memory.{each_byte, Rights}
 use Rattle.machines.specs.Guest.{Guest, effect_of, acts, behind}
-use Rattle.symbolic_tiles.specs.Row.{loaded, stored, WritesHeld}
+use Rattle.symbolic_tiles.specs.Row.{loaded, stored}
 use Rattle.symbolic_tiles.specs.Straight.{IsStraight}
 use Rattle.simulation.specs.Windows.{then_row, rows_of, behind_all, IsQuiet, IsLinked}
 use Rattle.rule_meaning.specs.Windows.{everywhere, behind_row, loads_of, stores_of, taken_of}

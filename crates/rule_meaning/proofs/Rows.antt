@@ -1,8 +1,8 @@
 -- The rows of a rule's words: they go on, or load, or store, and the next word is known. This project's own.
-use Rattle.std.proofs.Common.{◌≡◌, ℕ, suc, ◌+◌, ◌%◌, ◌^◌, Bool, true, false, not, cond, ◌⊎◌, inl, inr, List, [], ◌∷◌, ◌++◌, Contains, refl, sym, ap, ◌∙◌, subst}
+use Rattle.std.proofs.Common.{◌≡◌, ℕ, Bool, true, false, not, cond, refl}
 use Rattle.space.specs.declared.call.End.TheVariants.{Outside}
-use Rattle.runs.specs.Machine.{Outcome, Goes, Ends}
-use Rattle.ppc_isa.specs.Effect.{GuestValues, Access, NoAccess, LoadAccess, StoreAccess}
+use Rattle.runs.specs.Machine.{Goes, Ends}
+use Rattle.ppc_isa.specs.Effect.{GuestValues, NoAccess, LoadAccess, StoreAccess}
 use Rattle.ppc_isa.specs.Rows.{guest_row}
 use Rattle.machines.specs.Memory.{each_byte, Rights}
 use Rattle.machines.specs.Guest.{Guest, effect_of, acts, behind}

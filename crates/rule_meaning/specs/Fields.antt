@@ -3,7 +3,7 @@
 use Rattle.std.specs.Prelude.{◌≡◌, ℕ, ◌*◌, ◌==◌, if◌then◌else◌, Bool, true, false, not, ◌||◌, Option, Some, None}
 use Rattle.word_kit.specs.Words.{sign_extended}
 use Rattle.space.specs.declared.call.End.TheVariants.{Outside}
-use Rattle.runs.specs.Machine.{Outcome, Goes, Ends}
+use Rattle.runs.specs.Machine.{Goes, Ends}
 use Rattle.ppc_isa.specs.declared.instr.Instr.{Instr}
 use Rattle.ppc_isa.specs.declared.instr.Instr.TheVariants.{Immediate, LogicImmediate, Load, Store, LoadUpdate, StoreUpdate, TrapImmediate, CompareImmediate, Rotate, BranchConditional, Arithmetic, ArithmeticUnary, Logic, ShiftImmediate, LogicUnary, Compare, Trap, MoveFromCr, MoveToCr, MoveFromSpr, MoveToSpr, LoadIndexed, StoreIndexed, LoadIndexedUpdate, StoreIndexedUpdate, MoveCrField, CrLogic}
 use Rattle.ppc_isa.specs.declared.instr.RotateOp.TheVariants.{Rlwnm}
@@ -22,7 +22,7 @@ use Rattle.ppc_isa.specs.Locations.{immediate_carries, immediate_records, carry_
 use Rattle.ppc_isa.specs.Effect.{Effect, GuestValues, LoadAccess}
 use Rattle.ppc_isa.specs.Rows.{guest_row}
 use Rattle.machines.specs.Memory.{Rights, update, store_big, each_byte}
-use Rattle.machines.specs.Guest.{Guest, lr, ctr, puts_cr, puts_xer, behind, branches, onward, acts, value_a, value_b, value_s}
+use Rattle.machines.specs.Guest.{Guest, lr, ctr, puts_cr, puts_xer, branches, onward, acts, value_a, value_b, value_s}
 use Rattle.rule_body.specs.Rows.{is_plain, has_access}
 use Rattle.rule_meaning.specs.Laid.{target_at}
 

@@ -1,6 +1,6 @@
 -- Which values an op of a body reads, where its results go, and what it may leave undefined: the machine's ops as a table. This
 -- project's own.
-use Rattle.std.specs.Prelude.{◌≡◌, ℕ, ◌%◌, ◌^◌, ◌&&◌, if◌then◌else◌, Bool, true, false, Option, Some, None}
+use Rattle.std.specs.Prelude.{◌≡◌, ℕ, ◌%◌, ◌^◌, ◌&&◌, if◌then◌else◌, Bool, true, false, Option, Some}
 use Rattle.ia_codec.specs.declared.op.Operand.{Operand}
 use Rattle.ia_codec.specs.declared.op.Operand.TheVariants.{Reg}
 use Rattle.ia_codec.specs.declared.op.AluOp.{AluOp}

@@ -1,5 +1,5 @@
 -- The rule of an addition is sound: its one instance is. This project's own.
-use Rattle.std.proofs.Common.{◌≡◌, ◌≢◌, ℕ, zero, suc, ◌+◌, ◌*◌, ◌%◌, ◌^◌, ◌<◌, ◌⊎◌, inl, inr, ⊎_elim, Bool, true, false, cond, eqb, ltb, List, [], ◌∷◌, map as list_map, IsBitSet, Option, Some, None, refl, sym, ap, ◌∙◌, subst, arith}
+use Rattle.std.proofs.Common.{◌≡◌, ◌≢◌, ℕ, ◌+◌, ◌*◌, ◌%◌, ◌^◌, ◌<◌, ⊎_elim, Bool, true, false, cond, ltb, List, [], ◌∷◌, map as list_map, IsBitSet, Option, Some, None, refl, sym, ap, ◌∙◌, subst, arith}
 use Rattle.std.proofs.lemmas.Bool.Decides.{nat_tests}
 use Rattle.std.specs.Int.Bits.{and_zero_l}
 use Rattle.runs.specs.Machine.{Goes}
@@ -14,7 +14,7 @@ use Rattle.reg_map.specs.Home.{home, home_size, location_range}
 use Rattle.reg_map.specs.Place.{slot_of}
 use Rattle.machines.specs.Memory.{update, Rights}
 use Rattle.machines.specs.Guest.{Guest, onward}
-use Rattle.machines.specs.Host.{Choice, Core, Memory, value_at}
+use Rattle.machines.specs.Host.{Core, Memory, value_at}
 use Rattle.machines.specs.Representation.{in_slot, location_place}
 use Rattle.symbolic_tiles.specs.Relocated.{op_at}
 use Rattle.symbolic_tiles.specs.Row.{IsReady, IsDone, DoWindow}
@@ -23,22 +23,20 @@ use Rattle.symbolic_tiles.proofs.Places.{slots_apart}
 use Rattle.rule_body.specs.declared.goal.Goal.{Goal}
 use Rattle.rule_body.specs.declared.body.Body.{Body}
 use Rattle.rule_body.specs.declared.goal.Guest.{Guest as GuestWord}
-use Rattle.rule_body.specs.declared.rule.Rule.{Rule}
-use Rattle.rule_body.specs.Templates.{AreGuests, IsWindow}
+use Rattle.rule_body.specs.Templates.{AreGuests}
 use Rattle.rule_body.specs.Goals.{guests_of, template_of, IsGoal}
 use Rattle.rule_body.specs.Bodies.{IsBody}
 use Rattle.ia_codec.specs.Spelling.{IsReg}
 use Rattle.rule_body.specs.Rows.{is_ending}
-use Rattle.rule_body.specs.Ops.{is_straight, parts, accesses, operand_registers}
-use Rattle.rule_body.specs.Lines.{IsOperandFor}
+use Rattle.rule_body.specs.Ops.{is_straight, parts, accesses}
 use Rattle.rule_body.specs.Rules.{IsRule}
 use Rattle.rule_meaning.specs.Matches.{Match}
 use Rattle.rule_meaning.specs.LaidWords.{laid_words}
 use Rattle.rule_meaning.specs.LaidOps.{laid_ops}
 use Rattle.rule_meaning.specs.Windows.{window, loads_of, stores_of}
 use Rattle.rule_meaning.specs.Accesses.{AccessWindow, accessed}
-use Rattle.rule_meaning.specs.Sound.{IsSoundAt, IsConditionOf, dead_of}
-use Rattle.rule_renaming.specs.Plain.{plain, IsOwnMap, IsPlainSound, OneInstanceIsEnough}
+use Rattle.rule_meaning.specs.Sound.{IsConditionOf, dead_of}
+use Rattle.rule_renaming.specs.Plain.{plain, IsOwnMap, OneInstanceIsEnough}
 use Rattle.rule_renaming.specs.Examples.{add_goal, lea_body, AdditionIsSound}
 use Rattle.rule_renaming.proofs.Guests.{is_same}
 
@@ -198,8 +196,10 @@ addition_is_sound one enough rule goal body log =
       goal = subst IsGoal (sym goal) addition_goal;
       body = subst (λ (x : Goal). IsBody x rule.body) (sym goal) (subst (IsBody add_goal) (sym body) (addition_body one));
       log = log;
-    } in
-    (is, enough rule is (λ words condition own m area is_window takes is_own constants.
-      let s = addition_sound one words condition own m area (subst (λ (x : Goal). AreGuests (guests_of x) words) goal is_window.words) (subst (λ (x : Body). IsConditionOf x.take condition) body takes) (subst (λ (x : Goal). IsOwnMap (template_of x).slots own) goal is_own) in
-      let t = subst (λ (x : Goal). SoundFor x rule.body words condition own (plain m) area) (sym goal) (subst (λ (x : Body). SoundFor add_goal x words condition own (plain m) area) (sym body) s) in
-      record { does = t.does; accesses = t.accesses }))
+    } in (
+      is,
+      enough rule is (λ words condition own m area is_window takes is_own constants.
+          let s = addition_sound one words condition own m area (subst (λ (x : Goal). AreGuests (guests_of x) words) goal is_window.words) (subst (λ (x : Body). IsConditionOf x.take condition) body takes) (subst (λ (x : Goal). IsOwnMap (template_of x).slots own) goal is_own) in
+          let t = subst (λ (x : Goal). SoundFor x rule.body words condition own (plain m) area) (sym goal) (subst (λ (x : Body). SoundFor add_goal x words condition own (plain m) area) (sym body) s) in
+          record { does = t.does; accesses = t.accesses }),
+    )

@@ -1,13 +1,13 @@
 -- From the guest and the host of a match to those of the one instance, in which each parameter is the GPR of its own number. This
 -- project's own.
-use Rattle.std.proofs.Common.{◌≡◌, ◌≢◌, ℕ, zero, suc, ◌+◌, ◌-◌, ◌*◌, ◌/◌, ◌%◌, ◌^◌, ◌<◌, ◌≤◌, ◌⊎◌, inl, inr, ⊎_elim, Bool, true, false, cond, ◌&&◌, eqb, leb, ltb, List, [], ◌∷◌, length, Option, Some, None, Contains, refl, sym, ap, ◌∙◌, subst, arith}
+use Rattle.std.proofs.Common.{◌≡◌, ℕ, zero, suc, ◌+◌, ◌-◌, ◌*◌, ◌/◌, ◌%◌, ◌^◌, ◌<◌, ◌≤◌, ◌⊎◌, inl, inr, ⊎_elim, Bool, true, false, cond, ◌&&◌, leb, ltb, List, length, Option, Some, None, refl, sym, ap, ◌∙◌, subst, arith}
 use Rattle.std.proofs.lemmas.Bool.Decides.{nat_tests}
 use Rattle.ppc_isa.specs.declared.map.Map.{Map}
-use Rattle.reg_map.specs.Home.{home, home_size, location_count, location_range}
+use Rattle.reg_map.specs.Home.{home, home_size, location_range}
 use Rattle.reg_map.specs.Place.{slot_of}
 use Rattle.machines.specs.Memory.{load, Rights}
 use Rattle.machines.specs.Guest.{Guest}
-use Rattle.machines.specs.Host.{Core, Register, Memory, value_at}
+use Rattle.machines.specs.Host.{Core, Memory, value_at}
 use Rattle.machines.specs.Representation.{in_slot, location_place, IsHomePage, Represents, AreInRange}
 use Rattle.symbolic_tiles.specs.Row.{Any, IsCore}
 use Rattle.symbolic_tiles.proofs.Places.{slots_apart, slot_gpr, slot_cached, home_within}

@@ -1,22 +1,22 @@
 -- A guest whose registers have other names: instructions do by these names what they do to the first. This project's own.
-use Rattle.std.proofs.Common.{◌≡◌, ◌≢◌, ℕ, zero, suc, ◌+◌, ◌*◌, ◌/◌, ◌-◌, ◌%◌, ◌^◌, ◌<◌, ◌≤◌, ◌⊎◌, inl, inr, ⊎_elim, Bool, true, false, cond, ◌&&◌, eqb, leb, ltb, List, [], ◌∷◌, ◌++◌, map as list_map, Option, Some, None, refl, sym, ap, ◌∙◌, subst, arith}
+use Rattle.std.proofs.Common.{◌≡◌, ◌≢◌, ℕ, zero, suc, ◌/◌, ◌-◌, ◌%◌, ◌^◌, ◌<◌, ◌≤◌, ◌⊎◌, inl, inr, ⊎_elim, Bool, true, false, cond, ◌&&◌, eqb, leb, ltb, List, [], ◌∷◌, ◌++◌, map as list_map, Some, refl, sym, ap, ◌∙◌, subst, arith}
 use Rattle.std.proofs.lemmas.Bool.Decides.{nat_tests}
 use Rattle.space.specs.declared.call.End.TheVariants.{Outside}
 use Rattle.runs.specs.Machine.{Outcome, Goes, Asks, Ends}
-use Rattle.ppc_isa.specs.Effect.{GuestValues, Effect, Access}
+use Rattle.ppc_isa.specs.Effect.{GuestValues, Effect}
 use Rattle.ppc_isa.specs.Locations.{immediate_carries, immediate_records, logic_immediate_records, carry_out, unary_carry, logic_carries}
 use Rattle.ppc_isa.specs.AccessRows.{loads, stores, half_extended, half_reversed, word_reversed}
 use Rattle.ppc_isa.specs.SumRows.{sum}
 use Rattle.ppc_isa.specs.Rows.{guest_row}
 use Rattle.machines.specs.Memory.{update, store_big, each_byte, Rights}
-use Rattle.machines.specs.Guest.{Guest, effect_of, acts, onward, behind, branch_target, branches, linked, results, puts_cr, puts_xer, put_cr, put_xer, put_special, cr_word, xer_word, value_a, value_b, value_s, values_of, loaded_in, lr, ctr}
+use Rattle.machines.specs.Guest.{Guest, effect_of, acts, onward, behind, branch_target, branches, linked, results, put_cr, put_xer, put_special, cr_word, xer_word, value_a, value_b, value_s, values_of, loaded_in, lr, ctr}
 use Rattle.symbolic_tiles.specs.Row.{loaded, stored}
 use Rattle.simulation.specs.Windows.{then_row, rows_of}
 use Rattle.rule_meaning.specs.Matches.{Match, base_field}
 use Rattle.rule_meaning.specs.LaidWords.{register_field, count_field, bound}
 use Rattle.rule_meaning.specs.Windows.{everywhere, behind_row, loads_of, stores_of, taken_of}
 use Rattle.symbolic_tiles.proofs.Memory.{update_same, update_other}
-use Rattle.row_laws.proofs.Instructions.{Instr, Immediate, LogicImmediate, CompareImmediate, Rotate, Arithmetic, ArithmeticUnary, Logic, ShiftImmediate, LogicUnary, Compare, MoveFromCr, MoveToCr, MoveFromSpr, MoveToSpr, Sync, MoveCrField, CrLogic, Isync, Load, Store, LoadUpdate, StoreUpdate, LoadIndexed, StoreIndexed, LoadIndexedUpdate, StoreIndexedUpdate, BranchConditional, ImmediateOp, Addi, Addis, Addic, AddicRecord, Subfic, Mulli, RotateOp, Rlwinm, Rlwnm, Rlwimi, Lwz, Lbz, Lhz, Lha, Stw, Stb, Sth, Lwzu, Lbzu, Lhzu, Lhau, Stwu, Stbu, Sthu, Lwzx, Lbzx, Lhzx, Lhax, Lwbrx, Lhbrx, Stwx, Stbx, Sthx, Stwbrx, Sthbrx, Lwzux, Lbzux, Lhzux, Lhaux, Stwux, Stbux, Sthux}
+use Rattle.row_laws.proofs.Instructions.{Instr, Immediate, LogicImmediate, CompareImmediate, Rotate, Arithmetic, ArithmeticUnary, Logic, ShiftImmediate, LogicUnary, Compare, MoveFromCr, MoveToCr, MoveFromSpr, MoveToSpr, Sync, MoveCrField, CrLogic, Isync, Load, Store, LoadUpdate, StoreUpdate, LoadIndexed, StoreIndexed, LoadIndexedUpdate, StoreIndexedUpdate, BranchConditional, ImmediateOp, Addi, Addis, Addic, AddicRecord, Subfic, Mulli, RotateOp, Rlwinm, Rlwnm, Rlwimi, Lwz, Lbz, Lhz, Lha, Stw, Stb, Sth, Lwzx, Lbzx, Lhzx, Lhax, Lwbrx, Lhbrx, Stwx, Stbx, Sthx, Stwbrx, Sthbrx}
 
 pub is_same : (x n : ℕ) → (x ≡ n) ⊎ (x ≢ n)
 is_same x n = by_test (eqb x n) refl
@@ -173,7 +173,7 @@ module _ (m : Match) (P : ℕ → Type 0) where
     put_gpr : (k v : ℕ) (l l0 : ℕ → ℕ) → P k → SameLocs start l l0 → SameLocs start (update l (m.gpr k) v) (update l0 k v)
     put_gpr k v l l0 is r = record {
       pars = λ p u. ⊎_elim (λ (e : p ≡ k). ap (λ x. update l (m.gpr k) v (m.gpr x)) e ∙ update_same l (m.gpr k) v ∙ sym (update_same l0 k v) ∙ ap (update l0 k v) (sym e))
-      (λ ne. update_other l (m.gpr k) v (m.gpr p) (λ e. ne (names.apart p k u is e)) ∙ r.pars p u ∙ sym (update_other l0 k v p ne)) (is_same p k);
+          (λ ne. update_other l (m.gpr k) v (m.gpr p) (λ e. ne (names.apart p k u is e)) ∙ r.pars p u ∙ sym (update_other l0 k v p ne)) (is_same p k);
       others = λ x ge lt. let w = names.gprs k is in let z = names.low k is in update_other l (m.gpr k) v x (λ e. absurd (omega (arith, e, w, ge))) ∙ r.others x ge lt ∙ sym (update_other l0 k v x (λ e. absurd (omega (arith, e, z, ge))));
       kept = λ x lt far. update_other l (m.gpr k) v x (far k is) ∙ r.kept x lt far;
     }

@@ -11,7 +11,7 @@ use Rattle.ia_codec.specs.declared.op.UnaryOp.TheVariants.{Not, Neg, Mul, Imul1}
 use Rattle.ia_codec.specs.declared.op.ExtendOp.TheVariants.{MovzxByte, MovzxHalf, MovsxByte, MovsxHalf}
 use Rattle.ia_codec.specs.Effect.{Flags, HostValues, HostEffect}
 use Rattle.ia_codec.specs.Rows.{host_row}
-use Rattle.runs.specs.Machine.{Outcome, Goes, Asks, Ends}
+use Rattle.runs.specs.Machine.{Outcome}
 use Rattle.machines.specs.Memory.{update, load, store, each_byte, Rights}
 use Rattle.machines.specs.Host.{Choice, Core, Host, Place, Register, Memory, place_of, put_at, values_of, chosen_word, chosen_flags, has_result, extend_size, address_in, byte_for, puts_both, bind, reads, puts, leaves, does, choice_at, goes_to}
 use Rattle.symbolic_tiles.specs.Perform.{is_jump, op_outcome, core_behind, perform}
@@ -215,7 +215,7 @@ module _ (m : Match) (area : ℕ) (host : Rights) (U O : ℕ → Type 0) where
     put_own : (size : ℕ) (operand : Operand) (v : ℕ) (core other : Core) → IsOwn size operand → R core other → Both R (puts host core (there size operand core) v) (puts host other (here size operand other) v)
     put_own size (Reg r) v core other own r1 = record {
       regs = λ q u. ⊎_elim (λ (e : q ≡ r). ap (λ k. update core.regs (register_of m r) v (register_of m k)) e ∙ update_same core.regs (register_of m r) v ∙ sym (update_same other.regs r v) ∙ ap (update other.regs r v) (sym e))
-      (λ ne. update_other core.regs (register_of m r) v (register_of m q) (λ e. ne (names.regs_apart q r u own e)) ∙ r1.regs q u ∙ sym (update_other other.regs r v q ne)) (is_same q r);
+          (λ ne. update_other core.regs (register_of m r) v (register_of m q) (λ e. ne (names.regs_apart q r u own e)) ∙ r1.regs q u ∙ sym (update_other other.regs r v q ne)) (is_same q r);
       flags = r1.flags;
       bytes = r1.bytes;
       far = r1.far;
@@ -231,7 +231,7 @@ module _ (m : Match) (area : ℕ) (host : Rights) (U O : ℕ → Type 0) where
           flags = r1.flags;
           bytes = λ q u. ⊎_elim (λ w. within q u w.0 w.1 w.2) (λ far. beyond q u far) (is_within o q size);
           far = λ a f. store_other size (area + offset_of m o) v core.bytes a (λ i lt h. far_apart area (offset_of m (o + i)) a (names.homes_named (o + i) (own.1 i lt).0) f (sym (h ∙ at_named o i size own lt))) ∙ r1.far a f
-          ∙ sym (store_other size (area + o) v other.bytes a (λ i lt h. far_apart area (o + i) a (names.homes (o + i) (own.1 i lt).0) f (sym (h ∙ at_own o i size own lt))));
+              ∙ sym (store_other size (area + o) v other.bytes a (λ i lt h. far_apart area (o + i) a (names.homes (o + i) (own.1 i lt).0) f (sym (h ∙ at_own o i size own lt))));
           kept_regs = r1.kept_regs;
           kept_bytes = λ k lk no. store_other size (area + offset_of m o) v core.bytes (area + k) (λ i lt h. no (o + i) (own.1 i lt).0 (cancel k (offset_of m (o + i)) (h ∙ at_named o i size own lt))) ∙ r1.kept_bytes k lk no;
         }))
@@ -574,21 +574,21 @@ module _ (m : Match) (area : ℕ) (host : Rights) (U O : ℕ → Type 0) where
     ops_renamed (op ∷ ops) choices core other named away r1 =
         let far : OpIsFar op other = (
           (λ a c. away.loads a (Contains-append_left (op_loads (op_at area op) other.regs) _ a c)),
-          (λ a c. away.stores a (Contains-append_left (op_stores (op_at area op) other.regs) _ a c))
+          (λ a c. away.stores a (Contains-append_left (op_stores (op_at area op) other.regs) _ a c)),
         ) in
         let e = (calm_here op named.0 choices other).1 in
         let rest = by_both (λ x y w r2. ops_renamed ops (drop 1 choices) x y named.1 w r2) (does host (op_at area (placed m op)) (choice_at choices 0) core) (does host (op_at area op) (choice_at choices 0) other) (op_renamed op (choice_at choices 0) core other named.0 far r1)
-          (λ a c. away.loads a (Contains-append_right (op_loads (op_at area op) other.regs) _ a (subst (λ o. Contains (accessed_behind (accessed op_loads host (ops_here ops)) o) a) (sym e) c)))
-          (λ a c. away.stores a (Contains-append_right (op_stores (op_at area op) other.regs) _ a (subst (λ o. Contains (accessed_behind (accessed op_stores host (ops_here ops)) o) a) (sym e) c))) in
+        (λ a c. away.loads a (Contains-append_right (op_loads (op_at area op) other.regs) _ a (subst (λ o. Contains (accessed_behind (accessed op_loads host (ops_here ops)) o) a) (sym e) c)))
+        (λ a c. away.stores a (Contains-append_right (op_stores (op_at area op) other.regs) _ a (subst (λ o. Contains (accessed_behind (accessed op_stores host (ops_here ops)) o) a) (sym e) c))) in
         record {
           both = subst (λ o. Both R o (perform host (ops_here (op ∷ ops)) choices other)) (sym (performed (op_at area (placed m op)) (ops_there ops) choices core (calm_there op named.0)))
-          (subst (λ o. Both R (core_behind (perform host (ops_there ops)) (behind choices core (does host (op_at area (placed m op)) (choice_at choices 0) core))) o) (sym (performed (op_at area op) (ops_here ops) choices other (calm_here op named.0))) rest.both);
+              (subst (λ o. Both R (core_behind (perform host (ops_there ops)) (behind choices core (does host (op_at area (placed m op)) (choice_at choices 0) core))) o) (sym (performed (op_at area op) (ops_here ops) choices other (calm_here op named.0))) rest.both);
           loads = ap (λ o. op_loads (op_at area (placed m op)) core.regs ++ accessed_behind (accessed op_loads host (ops_there ops)) o) (calm_there op named.0 choices core).1
-          ∙ ap (λ l. l ++ accessed_behind (accessed op_loads host (ops_there ops)) (behind choices core (does host (op_at area (placed m op)) (choice_at choices 0) core))) (loads_same op core other named.0 r1)
-          ∙ ap (λ l. op_loads (op_at area op) other.regs ++ l) rest.loads ∙ sym (ap (λ o. op_loads (op_at area op) other.regs ++ accessed_behind (accessed op_loads host (ops_here ops)) o) e);
+              ∙ ap (λ l. l ++ accessed_behind (accessed op_loads host (ops_there ops)) (behind choices core (does host (op_at area (placed m op)) (choice_at choices 0) core))) (loads_same op core other named.0 r1)
+              ∙ ap (λ l. op_loads (op_at area op) other.regs ++ l) rest.loads ∙ sym (ap (λ o. op_loads (op_at area op) other.regs ++ accessed_behind (accessed op_loads host (ops_here ops)) o) e);
           stores = ap (λ o. op_stores (op_at area (placed m op)) core.regs ++ accessed_behind (accessed op_stores host (ops_there ops)) o) (calm_there op named.0 choices core).1
-          ∙ ap (λ l. l ++ accessed_behind (accessed op_stores host (ops_there ops)) (behind choices core (does host (op_at area (placed m op)) (choice_at choices 0) core))) (stores_same op core other named.0 r1)
-          ∙ ap (λ l. op_stores (op_at area op) other.regs ++ l) rest.stores ∙ sym (ap (λ o. op_stores (op_at area op) other.regs ++ accessed_behind (accessed op_stores host (ops_here ops)) o) e);
+              ∙ ap (λ l. l ++ accessed_behind (accessed op_stores host (ops_there ops)) (behind choices core (does host (op_at area (placed m op)) (choice_at choices 0) core))) (stores_same op core other named.0 r1)
+              ∙ ap (λ l. op_stores (op_at area op) other.regs ++ l) rest.stores ∙ sym (ap (λ o. op_stores (op_at area op) other.regs ++ accessed_behind (accessed op_stores host (ops_here ops)) o) e);
         }
       where
         by_both : ((x y : Core) → AreAway ops (drop 1 choices) y → R x y → DoSame ops (drop 1 choices) x y) → (o q : Option Core) → Both R o q →

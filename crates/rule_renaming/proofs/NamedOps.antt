@@ -1,5 +1,5 @@
 -- What the grammar of rules says of the ops of a rule: they name its parameters, and nothing else. This project's own.
-use Rattle.std.proofs.Common.{◌≡◌, ◌≢◌, ℕ, zero, suc, ◌+◌, ◌-◌, ◌*◌, ◌/◌, ◌%◌, ◌<◌, ◌≤◌, ◌⊎◌, inl, inr, ⊎_elim, Bool, true, false, cond, ◌&&◌, ◌||◌, ◌==◌, nat_lt, if◌then◌else◌, eqb, ltb, count_by, List, [], ◌∷◌, ◌++◌, length, take, map as list_map, slice_get, IsTrue, Option, Some, None, refl, sym, ap, ◌∙◌, subst, arith}
+use Rattle.std.proofs.Common.{◌≡◌, ℕ, ◌+◌, ◌-◌, ◌*◌, ◌<◌, ◌≤◌, inl, inr, Bool, true, false, ◌&&◌, ◌||◌, ◌==◌, nat_lt, List, [], ◌∷◌, ◌++◌, IsTrue, Option, Some, None, refl, sym, ap, ◌∙◌, subst, arith}
 use Rattle.std.specs.List.{AllByRecursion}
 use Rattle.std.proofs.lemmas.Bool.Decides.{nat_tests}
 use Rattle.ppc_isa.specs.declared.map.Map.{Map}
@@ -12,19 +12,18 @@ use Rattle.ia_codec.specs.declared.op.UnaryOp.TheVariants.{Not, Neg, Mul, Imul1,
 use Rattle.ia_codec.specs.declared.op.ExtendOp.TheVariants.{MovzxByte, MovzxHalf, MovsxByte, MovsxHalf}
 use Rattle.machines.specs.Memory.{Rights}
 use Rattle.machines.specs.Host.{extend_size}
-use Rattle.reg_map.specs.Registers.{ebx, esi, edi}
 use Rattle.rule_body.specs.declared.line.Hole.{Hole}
 use Rattle.rule_body.specs.declared.line.HostLine.{HostLine}
 use Rattle.rule_body.specs.declared.operands.OpParts.{OpParts}
-use Rattle.rule_body.specs.Ops.{is_straight, parts, operand_registers, register_list, registers}
+use Rattle.rule_body.specs.Ops.{is_straight, parts, operand_registers, registers}
 use Rattle.rule_body.specs.Lines.{is_usable, IsHome, IsOperandFor, IsHostLine}
 use Rattle.rule_body.specs.Templates.{Template, slot_count}
 use Rattle.rule_meaning.specs.Matches.{Match, slot_register, body_slot, hole_value}
 use Rattle.rule_meaning.specs.LaidOps.{offset_of, displaced, filled_op, filled_hole}
 use Rattle.rule_renaming.proofs.Slots.{find_slot}
-use Rattle.rule_renaming.proofs.Parameters.{is_parameter, is_in_slot, slot_at, slot_par, Bound}
+use Rattle.rule_renaming.proofs.Parameters.{slot_par, Bound}
 use Rattle.rule_renaming.proofs.Hosts.{IsOwn, IsAddress, IsWithin, IsNamed}
-use Rattle.rule_renaming.proofs.Bridge.{P, U, O, named_home, other_home}
+use Rattle.rule_renaming.proofs.Bridge.{U, O, named_home, other_home}
 
 is_below : (r n : ℕ) → nat_lt r n ≡ true → r < n
 is_below r n e = grind (arith, nat_tests)
@@ -92,11 +91,14 @@ module _ (slots : List Bool) (m : Match) where
 
     home_own : (size o : ℕ) → size ≤ 4 → IsHome slots o size → Own size (Abs o)
     home_own size o few (inr high) = (few, λ i lt. (inl (omega (arith, high.0), omega (arith, high.1, lt)), other_home slots m map b (o + i) (omega (arith, high.0)) ∙ ap (λ k. k + i) (sym (other_home slots m map b o high.0))))
-    home_own size o few (inl home) = (few, λ i lt.
-        let w = slot_par slots home.0 false home.2 in
-        let four : i < 4 = omega (arith, lt, few) in let e : o + i ≡ 4 * (home.0 + 1) + i = ap (λ k. k + i) home.1 in let z : o ≡ 4 * (home.0 + 1) + 0 = let q = home.1 in omega (arith, q) in
-        let n = named_home slots m map b (home.0 + 1) i w.0 four in let n0 = named_home slots m map b (home.0 + 1) 0 w.0 (omega arith) in
-        (inr (home.0 + 1, i, w.0, w.1, four, e), ap (offset_of m) e ∙ n ∙ ap (λ k. k + i) (sym (ap (offset_of m) z ∙ n0 ∙ omega arith))))
+    home_own size o few (inl home) = (
+      few,
+      λ i lt.
+          let w = slot_par slots home.0 false home.2 in
+          let four : i < 4 = omega (arith, lt, few) in let e : o + i ≡ 4 * (home.0 + 1) + i = ap (λ k. k + i) home.1 in let z : o ≡ 4 * (home.0 + 1) + 0 = let q = home.1 in omega (arith, q) in
+          let n = named_home slots m map b (home.0 + 1) i w.0 four in let n0 = named_home slots m map b (home.0 + 1) 0 w.0 (omega arith) in
+          (inr (home.0 + 1, i, w.0, w.1, four, e), ap (offset_of m) e ∙ n ∙ ap (λ k. k + i) (sym (ap (offset_of m) z ∙ n0 ∙ omega arith))),
+    )
 
     module _ (t : Template) (is_slots : t.slots ≡ slots) where
       -- an operand of an op that is no move over a sum

@@ -1,7 +1,7 @@
 -- What the grammar of rules says of the words and the ops of a rule: they name its parameters, and nothing else. This
 -- project's own.
-use Rattle.std.proofs.Common.{◌≡◌, ◌≢◌, ℕ, zero, suc, ◌+◌, ◌-◌, ◌*◌, ◌<◌, ◌≤◌, ◌⊎◌, inl, inr, ⊎_elim, Bool, true, false, cond, not, ◌&&◌, ◌||◌, ◌==◌, nat_lt, if◌then◌else◌, eqb, ltb, max, fold, List, [], ◌∷◌, ◌++◌, length, take, map as list_map, slice_get, Option, Some, None, Contains, refl, sym, ap, ◌∙◌, subst, arith}
-use Rattle.std.specs.List.{flat_map, AllByRecursion}
+use Rattle.std.proofs.Common.{◌≡◌, ◌≢◌, ℕ, suc, ◌+◌, ◌-◌, ◌≤◌, ◌⊎◌, inl, inr, ⊎_elim, Bool, true, false, not, ◌&&◌, ◌==◌, if◌then◌else◌, max, fold, List, [], ◌∷◌, ◌++◌, length, map as list_map, slice_get, Some, Contains, refl, sym, ap, ◌∙◌, subst, arith}
+use Rattle.std.specs.List.{flat_map}
 use Rattle.std.proofs.Math.Nat.{le-max_left, le-max_right}
 use Rattle.std.proofs.lemmas.Bool.Decides.{nat_tests}
 use Rattle.std.proofs.lemmas.List.Elements.{Contains-append_left, Contains-append_right}
@@ -17,7 +17,7 @@ use Rattle.rule_body.specs.Templates.{AreGuests, IsWindow, IsPlaced}
 use Rattle.rule_meaning.specs.Matches.{Match, IsMatch, base_field}
 use Rattle.rule_meaning.specs.LaidWords.{bound, filled, laid_words}
 use Rattle.rule_meaning.proofs.Grammar.{row_of}
-use Rattle.rule_renaming.proofs.Parameters.{is_parameter, par_is, place_back, place_in}
+use Rattle.rule_renaming.proofs.Parameters.{par_is, place_back, place_in}
 use Rattle.rule_renaming.proofs.Guests.{IsField, IsNamedWord, AreNamedWords}
 use Rattle.rule_renaming.proofs.Bridge.{P}
 
@@ -157,9 +157,10 @@ module _ (slots : List Bool) (m : Match) where
   named_words_of j [] [] are has bases = tt
   named_words_of j [] (i ∷ is) are has bases = absurd are
   named_words_of j (g ∷ gs) [] are has bases = absurd are
-  named_words_of j (g ∷ gs) (i ∷ is) are has bases =
-      (named_filled j g.free i (named_word i (kind_of i g.free (row_of g i are.0)) (λ k c. has k (Contains-append_left (numbers i) (flat_map numbers is) k c)) (bases 0 i refl)),
-      named_words_of (j + 1) gs is are.1 (λ k c. has k (Contains-append_right (numbers i) (flat_map numbers is) k c)) (λ n h e. bases (suc n) h e))
+  named_words_of j (g ∷ gs) (i ∷ is) are has bases = (
+    named_filled j g.free i (named_word i (kind_of i g.free (row_of g i are.0)) (λ k c. has k (Contains-append_left (numbers i) (flat_map numbers is) k c)) (bases 0 i refl)),
+    named_words_of (j + 1) gs is are.1 (λ k c. has k (Contains-append_right (numbers i) (flat_map numbers is) k c)) (λ n h e. bases (suc n) h e),
+  )
 
 -- the numbers of parameters
 from_one : (seen : ℕ) (ks : List ℕ) → AreNumbered seen ks → (k : ℕ) → Contains ks k → 1 ≤ k

@@ -1,12 +1,11 @@
 -- The parameters of a rule by their numbers, and what a match and the one map say of them. This project's own.
-use Rattle.std.proofs.Common.{◌≡◌, ℕ, zero, suc, ◌+◌, ◌-◌, ◌<◌, ◌≤◌, Bool, true, false, ◌&&◌, leb, List, length, get_or, slice_get, Option, Some, None, refl, sym, ap, ◌∙◌, subst, arith}
+use Rattle.std.proofs.Common.{◌≡◌, ℕ, ◌+◌, ◌-◌, ◌<◌, ◌≤◌, Bool, true, false, ◌&&◌, leb, List, length, get_or, slice_get, Some, None, sym, ap, ◌∙◌, subst, arith}
 use Rattle.std.proofs.lemmas.Bool.Decides.{nat_tests}
 use Rattle.std.proofs.lemmas.Option.{slice_get-get_or, slice_get_within, get_or_from_slice_get}
 use Rattle.ppc_isa.specs.declared.instr.Instr.{Instr}
 use Rattle.ppc_isa.specs.declared.map.Map.{Map}
 use Rattle.ppc_isa.specs.Map.{IsMap}
 use Rattle.reg_map.specs.Place.{slot_of}
-use Rattle.symbolic_tiles.proofs.Small.{both_true}
 use Rattle.rule_meaning.specs.Matches.{Match, IsMatch, body_slot}
 use Rattle.rule_renaming.specs.Plain.{IsOwnMap}
 

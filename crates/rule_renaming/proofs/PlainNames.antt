@@ -1,8 +1,6 @@
 -- In the one instance each register field and each home is its own. This project's own.
-use Rattle.std.proofs.Common.{◌≡◌, ℕ, zero, suc, ◌+◌, ◌*◌, ◌/◌, ◌%◌, ◌<◌, Bool, true, false, cond, ◌==◌, ◌||◌, nat_lt, if◌then◌else◌, List, [], ◌∷◌, map as list_map, Option, Some, None, refl, sym, ap, ◌∙◌, subst, arith}
-use Rattle.std.specs.List.{AllByRecursion}
+use Rattle.std.proofs.Common.{◌≡◌, ℕ, ◌+◌, ◌*◌, ◌/◌, ◌%◌, Bool, true, false, ◌==◌, ◌||◌, nat_lt, if◌then◌else◌, List, [], ◌∷◌, map as list_map, Option, Some, None, refl, sym, ap, ◌∙◌, arith}
 use Rattle.std.proofs.lemmas.Bool.Decides.{nat_tests}
-use Rattle.ppc_isa.specs.declared.map.Map.{Map}
 use Rattle.ia_codec.specs.declared.op.Operand.{Operand}
 use Rattle.ia_codec.specs.declared.op.Operand.TheVariants.{Reg, Abs, Base, Pair}
 use Rattle.ia_codec.specs.declared.op.Op.{Op}
@@ -11,13 +9,10 @@ use Rattle.row_laws.proofs.Instructions.{Instr, Immediate, LogicImmediate, Compa
 use Rattle.rule_body.specs.declared.goal.Guest.{Guest}
 use Rattle.rule_body.specs.declared.line.Hole.{Hole}
 use Rattle.rule_body.specs.declared.line.HostLine.{HostLine}
-use Rattle.rule_body.specs.Lines.{IsHostLine}
-use Rattle.rule_body.specs.Templates.{Template}
 use Rattle.rule_meaning.specs.Matches.{Match}
-use Rattle.rule_meaning.specs.LaidWords.{register_field, count_field, bound, filled, laid_words}
+use Rattle.rule_meaning.specs.LaidWords.{register_field, bound, filled, laid_words}
 use Rattle.rule_meaning.specs.LaidOps.{register_of, offset_of, placed_operand, placed, filled_hole, laid_line}
 use Rattle.rule_renaming.specs.Plain.{plain}
-use Rattle.rule_renaming.proofs.Parameters.{Bound}
 use Rattle.rule_renaming.proofs.Guests.{IsNamedWord, AreNamedWords}
 use Rattle.rule_renaming.proofs.Bridge.{P}
 use Rattle.rule_renaming.proofs.NamedWords.{filled_words}

@@ -1,13 +1,13 @@
 -- The slots of a rule's parameters in order, and the one map, which holds those that stand in slots. This project's own.
-use Rattle.std.proofs.Common.{◌≡◌, ◌≢◌, ℕ, zero, suc, ◌+◌, ◌<◌, ◌≤◌, ◌⊎◌, inl, inr, ⊎_elim, Bool, true, false, cond, ◌==◌, if◌then◌else◌, count_by, List, [], ◌∷◌, length, take, slice_get, Option, Some, None, refl, sym, ap, ◌∙◌, subst, arith}
+use Rattle.std.proofs.Common.{◌≡◌, ◌≢◌, ℕ, zero, suc, ◌+◌, ◌<◌, ◌≤◌, Bool, true, false, cond, ◌==◌, if◌then◌else◌, List, [], ◌∷◌, length, take, slice_get, Option, Some, None, refl, sym, ap, ◌∙◌, arith}
 use Rattle.std.proofs.lemmas.List.Sums.{sum_by-cons}
 use Rattle.std.proofs.lemmas.Bool.Decides.{nat_tests}
 use Rattle.std.proofs.lemmas.Option.{slice_get_within}
 use Rattle.ppc_isa.specs.declared.map.Map.{Map}
-use Rattle.ppc_isa.specs.Map.{IsMap, IsHeld, AreApart}
+use Rattle.ppc_isa.specs.Map.{IsHeld, AreApart}
 use Rattle.reg_map.specs.Place.{holds, slot_of}
 use Rattle.rule_body.specs.Templates.{slot_count}
-use Rattle.rule_meaning.specs.Matches.{slot_register, body_slot}
+use Rattle.rule_meaning.specs.Matches.{slot_register}
 use Rattle.rule_renaming.specs.Plain.{IsOwnMap}
 
 one_more : (slots : List Bool) → slot_count (true ∷ slots) ≡ 1 + slot_count slots

@@ -1,13 +1,11 @@
 -- One instance of a rule is enough. This project's own.
-use Rattle.std.proofs.Common.{◌≡◌, ℕ, zero, suc, ◌+◌, ◌*◌, ◌/◌, ◌%◌, ◌^◌, ◌<◌, ◌≤◌, ◌⊎◌, inl, inr, ⊎_elim, Bool, true, false, cond, ◌==◌, ◌||◌, nat_lt, if◌then◌else◌, List, [], ◌∷◌, length, take, map as list_map, Option, Some, None, Contains, refl, sym, ap, ◌∙◌, subst, arith}
-use Rattle.std.specs.List.{flat_map, AllByRecursion}
+use Rattle.std.proofs.Common.{◌≡◌, ℕ, ◌≤◌, Bool, false, List, [], ◌∷◌, length, map as list_map, Option, Some, None, Contains, refl, sym, ap, ◌∙◌, subst, arith}
+use Rattle.std.specs.List.{AllByRecursion}
 use Rattle.std.proofs.lemmas.List.{length-take}
 use Rattle.runs.specs.Machine.{Outcome, Goes, Asks, Ends}
 use Rattle.ppc_isa.specs.declared.map.Map.{Map}
 use Rattle.ppc_isa.specs.declared.instr.Instr.{Instr}
-use Rattle.ppc_isa.specs.Map.{IsMap}
 use Rattle.ppc_isa.specs.Legal.{HasOneInstruction}
-use Rattle.ppc_isa.specs.Locations.{locations_written}
 use Rattle.ia_codec.specs.declared.op.Op.{Op}
 use Rattle.ia_codec.specs.declared.op.Condition.{Condition}
 use Rattle.machines.specs.Memory.{Rights}
@@ -18,26 +16,23 @@ use Rattle.symbolic_tiles.specs.Relocated.{op_at}
 use Rattle.symbolic_tiles.specs.Perform.{perform}
 use Rattle.symbolic_tiles.specs.Row.{Window, IsReady, IsDone, GoesThrough, DoWindow}
 use Rattle.simulation.specs.Windows.{rows_of}
-use Rattle.rule_body.specs.declared.goal.Goal.{Goal}
 use Rattle.rule_body.specs.declared.line.HostLine.{HostLine}
-use Rattle.rule_body.specs.declared.rule.Rule.{Rule}
-use Rattle.rule_body.specs.Templates.{IsWindow, Template}
+use Rattle.rule_body.specs.Templates.{Template}
 use Rattle.rule_body.specs.Goals.{guests_of, template_of}
 use Rattle.rule_body.specs.Bodies.{lines_of}
 use Rattle.rule_body.specs.Lines.{IsHostLine}
-use Rattle.rule_body.specs.Rules.{IsRule}
-use Rattle.rule_meaning.specs.Matches.{Match, IsMatch}
+use Rattle.rule_meaning.specs.Matches.{Match}
 use Rattle.rule_meaning.specs.LaidWords.{bound, laid_words}
 use Rattle.rule_meaning.specs.LaidOps.{placed, filled_hole, laid_line, laid_ops}
-use Rattle.rule_meaning.specs.Windows.{window, loads_of, stores_of, taken_of}
-use Rattle.rule_meaning.specs.Accesses.{AccessWindow, HaveAccess, accessed, op_loads, op_stores}
-use Rattle.rule_meaning.specs.Sound.{IsSoundAt, IsConditionOf, dead_of}
+use Rattle.rule_meaning.specs.Windows.{window, loads_of, stores_of}
+use Rattle.rule_meaning.specs.Accesses.{AccessWindow, HaveAccess}
+use Rattle.rule_meaning.specs.Sound.{dead_of}
 use Rattle.rule_meaning.proofs.Grammar.{has_take, rule_words}
 use Rattle.rule_meaning.proofs.Passing.{AreRuleWords, Passed, next_of, words_passed}
-use Rattle.rule_renaming.specs.Plain.{plain, IsOwnMap, IsPlainSound, OneInstanceIsEnough}
+use Rattle.rule_renaming.specs.Plain.{plain, OneInstanceIsEnough}
 use Rattle.rule_renaming.proofs.Parameters.{Bound, bound_of, Own, own_of}
-use Rattle.rule_renaming.proofs.Hosts.{IsFar, Both, Renamed, AreNamed, AreAway, DoSame, ops_renamed}
-use Rattle.rule_renaming.proofs.Guests.{AreNamedWords, SameGuest, SameOutcome, named_words, words_renamed, loads_renamed, stores_renamed, taken_renamed}
+use Rattle.rule_renaming.proofs.Hosts.{Both, Renamed, AreNamed, AreAway, DoSame, ops_renamed}
+use Rattle.rule_renaming.proofs.Guests.{AreNamedWords, SameGuest, SameOutcome, words_renamed, loads_renamed, stores_renamed, taken_renamed}
 use Rattle.rule_renaming.proofs.Bridge.{P, U, O, guest_names, names, own_guest, own_core, own_alike, own_renamed, own_represents, own_range, own_is_core}
 use Rattle.rule_renaming.proofs.Done.{done}
 use Rattle.rule_renaming.proofs.Slots.{own_map, own_is}
@@ -178,19 +173,19 @@ one_instance_is_enough one rule is plainly words condition map m area is_window 
     let e = plain_words slots m 0 guests words named in
     let d = plain_ops m lines in
     let does : DoWindow (window filled (dead_of goal (plain m)) condition) own area (list_map (op_at area) (filled_ops m lines)) =
-      subst (λ ws. DoWindow (window ws (dead_of goal (plain m)) condition) own area (list_map (op_at area) (filled_ops m lines))) e
-      (subst (λ os. DoWindow (window (laid_words (plain m) 0 guests words) (dead_of goal (plain m)) condition) own area (list_map (op_at area) os)) d sound.does) in
+    subst (λ ws. DoWindow (window ws (dead_of goal (plain m)) condition) own area (list_map (op_at area) (filled_ops m lines))) e
+    (subst (λ os. DoWindow (window (laid_words (plain m) 0 guests words) (dead_of goal (plain m)) condition) own area (list_map (op_at area) os)) d sound.does) in
     let accesses : AccessWindow (window filled (dead_of goal (plain m)) condition) own area (list_map (op_at area) (filled_ops m lines)) =
-      subst (λ ws. AccessWindow (window ws (dead_of goal (plain m)) condition) own area (list_map (op_at area) (filled_ops m lines))) e
-      (subst (λ os. AccessWindow (window (laid_words (plain m) 0 guests words) (dead_of goal (plain m)) condition) own area (list_map (op_at area) os)) d sound.accesses) in
+    subst (λ ws. AccessWindow (window ws (dead_of goal (plain m)) condition) own area (list_map (op_at area) (filled_ops m lines))) e
+    (subst (λ os. AccessWindow (window (laid_words (plain m) 0 guests words) (dead_of goal (plain m)) condition) own area (list_map (op_at area) os)) d sound.accesses) in
     let are = subst (AreRuleWords (has_take rule.body.take)) laid (rule_words one rule is words is_window m) in
     let dead_pars = λ (p : ℕ) (i : P slots m p). dead_parameter goal m p ((guest_names slots m map b).low p i) in
     let lines_are = λ (guest host : Rights) (page : IsHomePage area guest host) (start : Core). lines_named slots m map b area (template_of goal) refl guest host page start lines is.body.lines.each in
     record {
       does = subst (λ ws. DoWindow (window ws (dead_of goal m) condition) map area (list_map (op_at area) (laid_ops m rule.body))) (sym laid)
-      (subst (λ os. DoWindow (window (list_map (bound m.gpr) filled) (dead_of goal m) condition) map area (list_map (op_at area) os)) (sym (placed_are m lines))
-      (λ guest host g g' core choices ready goes. done_there slots m map own b (own_of slots own is_own) area filled (filled_ops m lines) (dead_of goal m) (dead_of goal (plain m)) condition named (has_take rule.body.take) are lines_are dead_pars (dead_other goal m) does accesses guest host g g' core choices ready goes));
+          (subst (λ os. DoWindow (window (list_map (bound m.gpr) filled) (dead_of goal m) condition) map area (list_map (op_at area) os)) (sym (placed_are m lines))
+          (λ guest host g g' core choices ready goes. done_there slots m map own b (own_of slots own is_own) area filled (filled_ops m lines) (dead_of goal m) (dead_of goal (plain m)) condition named (has_take rule.body.take) are lines_are dead_pars (dead_other goal m) does accesses guest host g g' core choices ready goes));
       accesses = subst (λ ws. AccessWindow (window ws (dead_of goal m) condition) map area (list_map (op_at area) (laid_ops m rule.body))) (sym laid)
-      (subst (λ os. AccessWindow (window (list_map (bound m.gpr) filled) (dead_of goal m) condition) map area (list_map (op_at area) os)) (sym (placed_are m lines))
-      (λ guest host g g' core choices ready goes. access_there slots m map own b (own_of slots own is_own) area filled (filled_ops m lines) (dead_of goal m) (dead_of goal (plain m)) condition named (has_take rule.body.take) are lines_are dead_pars (dead_other goal m) does accesses guest host g g' core choices ready goes));
+          (subst (λ os. AccessWindow (window (list_map (bound m.gpr) filled) (dead_of goal m) condition) map area (list_map (op_at area) os)) (sym (placed_are m lines))
+          (λ guest host g g' core choices ready goes. access_there slots m map own b (own_of slots own is_own) area filled (filled_ops m lines) (dead_of goal m) (dead_of goal (plain m)) condition named (has_take rule.body.take) are lines_are dead_pars (dead_other goal m) does accesses guest host g g' core choices ready goes));
     }

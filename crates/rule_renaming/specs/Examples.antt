@@ -1,5 +1,5 @@
 -- A worked rule: p1 = p2 + p3, each in a slot, is one lea. This project's own.
-use Rattle.std.specs.Prelude.{◌≡◌, Bool, true, false, [], ◌∷◌, None}
+use Rattle.std.specs.Prelude.{◌≡◌, true, false, [], ◌∷◌, None}
 use Rattle.std.specs.List.{AllByRecursion}
 use Rattle.ia_codec.specs.declared.op.Operand.TheVariants.{Pair}
 use Rattle.ia_codec.specs.declared.op.Op.TheVariants.{Lea}

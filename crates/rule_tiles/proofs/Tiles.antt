@@ -1,5 +1,5 @@
 -- A sound rule that is laid where it matches is a tile of the plan, and keeps the simulation. This project's own.
-use Rattle.std.proofs.Common.{◌≡◌, ℕ, suc, ◌+◌, ◌<◌, ◌≤◌, Bool, true, false, cond, List, [], ◌∷◌, length, take, map as list_map, Option, Some, None, refl, sym, ap, ◌∙◌, subst, arith}
+use Rattle.std.proofs.Common.{◌≡◌, ℕ, ◌<◌, ◌≤◌, Bool, true, false, cond, List, [], ◌∷◌, length, Option, Some, None, refl, sym, ap, ◌∙◌, subst, arith}
 use Rattle.std.proofs.lemmas.List.{length-take, length-map}
 use Rattle.ppc_isa.specs.declared.instr.Instr.{Instr}
 use Rattle.ppc_isa.specs.declared.map.Map.{Map}
@@ -73,17 +73,29 @@ module _ (one : (w : ℕ) → HasOneInstruction w) (s : Setting) (t : IsTranslat
 
   pub rule_is_tile : RuleIsTile s
   rule_is_tile rule words found map dead m w from to steps laid none is rest =
-      let are : AreRuleWords false found = subst (λ o. AreRuleWords (has_take o) found) none (are_words rule words found map dead m w from to laid) in
-      (to, (tile rule words found map dead m w from to laid None (subst (λ o. IsConditionOf o None) (sym none) tt), laid.stands),
-      unneeded rule words found map dead m w from to laid None (behind_all w found) is,
-      (λ g g' here goes. (words_passed s.guest false found are g g' goes).next_is ∙ ap (λ a. behind_all a found) here), rest)
+      let are : AreRuleWords false found = subst (λ o. AreRuleWords (has_take o) found) none (are_words rule words found map dead m w from to laid) in (
+        to,
+        (tile rule words found map dead m w from to laid None (subst (λ o. IsConditionOf o None) (sym none) tt), laid.stands),
+        unneeded rule words found map dead m w from to laid None (behind_all w found) is,
+        (λ g g' here goes. (words_passed s.guest false found are g g' goes).next_is ∙ ap (λ a. behind_all a found) here),
+        rest,
+      )
 
   pub rule_is_branch_tile : RuleIsBranchTile s
   rule_is_branch_tile rule words found map dead m w from to condition laid takes taken_dead next_dead forked =
-      let are : AreRuleWords true found = subst (λ b. AreRuleWords b found) (has_one rule.body.take condition takes) (are_words rule words found map dead m w from to laid) in
-      (to, forked.holds, forked.fails, (tile rule words found map dead m w from to laid (Some condition) takes, laid.stands), refl,
-      unneeded rule words found map dead m w from to laid (Some condition) (target_of found w) taken_dead, unneeded rule words found map dead m w from to laid (Some condition) (behind_all w found) next_dead,
-      (λ g g' here goes. (words_passed s.guest true found are g g' goes).next_is ∙ ap (λ a. cond (taken_of found g) (target_of found a) (behind_all a found)) here), forked.fork, forked.to_target, forked.to_next)
+      let are : AreRuleWords true found = subst (λ b. AreRuleWords b found) (has_one rule.body.take condition takes) (are_words rule words found map dead m w from to laid) in (
+        to,
+        forked.holds,
+        forked.fails,
+        (tile rule words found map dead m w from to laid (Some condition) takes, laid.stands),
+        refl,
+        unneeded rule words found map dead m w from to laid (Some condition) (target_of found w) taken_dead,
+        unneeded rule words found map dead m w from to laid (Some condition) (behind_all w found) next_dead,
+        (λ g g' here goes. (words_passed s.guest true found are g g' goes).next_is ∙ ap (λ a. cond (taken_of found g) (target_of found a) (behind_all a found)) here),
+        forked.fork,
+        forked.to_target,
+        forked.to_next,
+      )
 
 module _ (s : Setting) (advances : MeetingAdvances s) where
   pub rule_keeps : RuleIsTile s → RuleKeeps s
