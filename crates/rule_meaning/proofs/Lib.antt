@@ -1,0 +1,5 @@
+pub mod Rows
+pub mod Passing
+pub mod Grammar
+pub mod GuestTable
+pub mod HostTable

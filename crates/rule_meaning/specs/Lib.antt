@@ -1,0 +1,9 @@
+pub mod Matches
+pub mod LaidWords
+pub mod LaidOps
+pub mod Windows
+pub mod Accesses
+pub mod Sound
+pub mod Laid
+pub mod Fields
+pub mod Shapes

@@ -1,0 +1,12 @@
+pub mod Slots
+pub mod Hosts
+pub mod Guests
+pub mod Parameters
+pub mod Bridge
+pub mod Done
+pub mod NamedWords
+pub mod NamedOps
+pub mod Written
+pub mod PlainNames
+pub mod Whole
+pub mod Addition
