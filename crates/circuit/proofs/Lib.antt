@@ -15,3 +15,4 @@ pub mod Appended
 pub mod Formulas
 pub mod Growing
 pub mod OneFormula
+pub mod Fitting

@@ -1,7 +1,8 @@
 //! What holds of every circuit.
 
 ghost use Rattle.std.specs.Prelude.{◌≡◌, ℕ, ℤ, Bool, List, Option, Some, slice_get};
-ghost use Rattle.circuit.specs.Extensions.{Extends};
+ghost use Rattle.circuit.specs.Nodes.{AllAgree};
+ghost use Rattle.circuit.specs.Extensions.{Extends, GatesAgree};
 ghost use Rattle.circuit.specs.Clauses.{AreClausesFor, SatisfiesGates};
 ghost use Rattle.circuit.specs.Sharing.{IsOneOfEach};
 ghost use Rattle.circuit.specs.declared.nodes.Node.{Node as AnyNode};
@@ -31,6 +32,11 @@ pub fn one_of_each(gates: &Gates)
 {
     let _count = gates.nodes.len();
 }
+
+/// An assignment that gives each product half and division its values fits every gate.
+pub fn fits_gates()
+    ensures { (nodes : List AnyNode) (v : ℕ → Bool) → AllAgree nodes v → GatesAgree nodes v }
+{}
 
 /// One list of clauses alone belongs to a final clause.
 pub fn one_formula()

@@ -15,6 +15,6 @@ mod wiring;
 mod words;
 
 pub use gates::Gates;
-pub use laws::{inputs_extend, one_formula, one_of_each, untied};
+pub use laws::{fits_gates, inputs_extend, one_formula, one_of_each, untied};
 pub use literals::Lit;
 pub use nodes::Node;

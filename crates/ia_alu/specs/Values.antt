@@ -1,5 +1,6 @@
 -- What the values of an algebra mean as numbers and truths, and which of them the algebra owns.
-use Rattle.std.specs.Prelude.{ℕ, ◌≤◌, Bool, true, false}
+use Rattle.std.specs.Prelude.{◌≡◌, ℕ, ◌≤◌, Bool, true, false}
+use Rattle.word_kit.specs.declared.algebra.Alg.{Ghosts}
 use Rattle.ia_codec.specs.Effect.{HostValues, HostEffect as Outcome}
 use Rattle.ia_codec.specs.declared.op.UnaryOp.{UnaryOp}
 use Rattle.ia_codec.specs.declared.op.UnaryOp.TheVariants.{Not, Neg, Mul, Imul1, Div, Idiv}
@@ -96,3 +97,14 @@ module _ {A W B : Type 0} where
     holds = truth e.holds;
     faults = truth e.faults;
   }
+
+module _ {A S W B : Type 0} (alg : Ghosts S W B) where
+  -- the algebra owns the values of an effect, which mean another under every assignment that it admits
+  pub record GivesEffect (s : S) (e : HostEffect A W B) (effect : (ℕ → Bool) → HostEffect A ℕ Bool) : Type 0 where
+    pub owned : IsEffectOwned alg.word_reach alg.flag_reach (alg.extent s) e
+    pub means : (v : ℕ → Bool) → alg.admits s v → effect_meant (λ w. alg.word w v) (λ b. alg.truth b v) e ≡ effect v
+
+  -- the same, with the numbers and truths that an op gives
+  pub record GivesOutcome (s : S) (e : HostEffect A W B) (outcome : (ℕ → Bool) → Outcome) : Type 0 where
+    pub owned : IsEffectOwned alg.word_reach alg.flag_reach (alg.extent s) e
+    pub means : (v : ℕ → Bool) → alg.admits s v → outcome_of (λ w. alg.word w v) (λ b. alg.truth b v) e ≡ outcome v

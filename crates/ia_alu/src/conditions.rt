@@ -1,8 +1,9 @@
 //! Conditions: jcc, setcc, cmovcc, and jumps without one.
 
-ghost use Rattle.std.specs.Prelude.{◌≡◌, ◌≤◌, ◌<◌, ℕ, Bool, true, false, IfOk, OnOk, OnErr, IsTrue};
+ghost use Rattle.std.specs.Prelude.{◌≡◌, IfOk, OnErr, IsTrue};
+ghost use Rattle.word_kit.specs.Algebra.{IsLater, GivesFlag};
 ghost use Rattle.word_kit.specs.PlainOperations.{plain_operations};
-ghost use Rattle.ia_alu.specs.Values.{IsOwned, IsEffectOwned, meant, effect_meant};
+ghost use Rattle.ia_alu.specs.Values.{IsOwned, meant, GivesEffect};
 ghost use Rattle.ia_alu.specs.Terms.{condition_term, set_term, cmov_term, jcc_term, jump_term};
 
 use crate::moves::kept;
@@ -17,14 +18,10 @@ fn condition_of<A: Alg>(
     from: &HostIn<A>,
 ) -> Result<A::B, NoMemory>
     requires owned { IsOwned A.word_reach A.flag_reach (A.extent alg.old) from.now }
-    ensures grows { A.extent alg.old ≤ A.extent alg.new }
-    ensures earlier { (v : ℕ → Bool) → A.admits alg.new v → A.admits alg.old v }
-    ensures opaque { A.opaque alg.new ≡ A.opaque alg.old }
-    ensures made { IfOk result (λ r. r ≡ (condition_term A.ops condition (A.held alg.old) from.now).flag) }
-    ensures held { OnOk result (A.held alg.new ≡ (condition_term A.ops condition (A.held alg.old) from.now).held) }
+    ensures later { IsLater A.Alg alg.old alg.new }
+    ensures makes { IfOk result (λ r. record { flag = r; held = A.held alg.new } ≡ condition_term A.ops condition (A.held alg.old) from.now) }
     ensures fails { OnErr result (IsTrue A.takes_memory) }
-    ensures owned { IfOk result (λ r. A.flag_reach r ≤ A.extent alg.new) }
-    ensures means { IfOk result (λ r. (v : ℕ → Bool) → A.admits alg.new v → A.truth r v ≡ (condition_term plain_operations condition tt (meant (λ w. A.word w v) (λ b. A.truth b v) from.now)).flag) }
+    ensures gives { IfOk result (λ r. GivesFlag A.Alg alg.new r (λ v. (condition_term plain_operations condition tt (meant (λ w. A.word w v) (λ b. A.truth b v) from.now)).flag)) }
 {
     match condition {
         Condition::Below => Ok(from.cf),
@@ -62,14 +59,10 @@ pub(crate) fn set<A: Alg>(
     from: &HostIn<A>,
 ) -> Result<HostEffect<A>, NoMemory>
     requires owned { IsOwned A.word_reach A.flag_reach (A.extent alg.old) from.now }
-    ensures grows { A.extent alg.old ≤ A.extent alg.new }
-    ensures earlier { (v : ℕ → Bool) → A.admits alg.new v → A.admits alg.old v }
-    ensures opaque { A.opaque alg.new ≡ A.opaque alg.old }
-    ensures made { IfOk result (λ r. r ≡ (set_term A.ops condition (A.held alg.old) from.now).effect) }
-    ensures held { OnOk result (A.held alg.new ≡ (set_term A.ops condition (A.held alg.old) from.now).held) }
+    ensures later { IsLater A.Alg alg.old alg.new }
+    ensures makes { IfOk result (λ r. record { effect = r; held = A.held alg.new } ≡ set_term A.ops condition (A.held alg.old) from.now) }
     ensures fails { OnErr result (IsTrue A.takes_memory) }
-    ensures owned { IfOk result (λ r. IsEffectOwned A.word_reach A.flag_reach (A.extent alg.new) r) }
-    ensures means { IfOk result (λ r. (v : ℕ → Bool) → A.admits alg.new v → effect_meant (λ w. A.word w v) (λ b. A.truth b v) r ≡ (set_term plain_operations condition tt (meant (λ w. A.word w v) (λ b. A.truth b v) from.now)).effect) }
+    ensures gives { IfOk result (λ r. GivesEffect A.Alg alg.new r (λ v. (set_term plain_operations condition tt (meant (λ w. A.word w v) (λ b. A.truth b v) from.now)).effect)) }
 {
     let holds = condition_of(alg, condition, from)?;
     let zero = alg.lit(0);
@@ -85,14 +78,10 @@ pub(crate) fn cmov<A: Alg>(
     from: &HostIn<A>,
 ) -> Result<HostEffect<A>, NoMemory>
     requires owned { IsOwned A.word_reach A.flag_reach (A.extent alg.old) from.now }
-    ensures grows { A.extent alg.old ≤ A.extent alg.new }
-    ensures earlier { (v : ℕ → Bool) → A.admits alg.new v → A.admits alg.old v }
-    ensures opaque { A.opaque alg.new ≡ A.opaque alg.old }
-    ensures made { IfOk result (λ r. r ≡ (cmov_term A.ops condition (A.held alg.old) from.now).effect) }
-    ensures held { OnOk result (A.held alg.new ≡ (cmov_term A.ops condition (A.held alg.old) from.now).held) }
+    ensures later { IsLater A.Alg alg.old alg.new }
+    ensures makes { IfOk result (λ r. record { effect = r; held = A.held alg.new } ≡ cmov_term A.ops condition (A.held alg.old) from.now) }
     ensures fails { OnErr result (IsTrue A.takes_memory) }
-    ensures owned { IfOk result (λ r. IsEffectOwned A.word_reach A.flag_reach (A.extent alg.new) r) }
-    ensures means { IfOk result (λ r. (v : ℕ → Bool) → A.admits alg.new v → effect_meant (λ w. A.word w v) (λ b. A.truth b v) r ≡ (cmov_term plain_operations condition tt (meant (λ w. A.word w v) (λ b. A.truth b v) from.now)).effect) }
+    ensures gives { IfOk result (λ r. GivesEffect A.Alg alg.new r (λ v. (cmov_term plain_operations condition tt (meant (λ w. A.word w v) (λ b. A.truth b v) from.now)).effect)) }
 {
     let holds = condition_of(alg, condition, from)?;
     let value = alg.pick(holds, from.y, from.x)?;
@@ -107,14 +96,10 @@ pub(crate) fn jcc<A: Alg>(
     from: &HostIn<A>,
 ) -> Result<HostEffect<A>, NoMemory>
     requires owned { IsOwned A.word_reach A.flag_reach (A.extent alg.old) from.now }
-    ensures grows { A.extent alg.old ≤ A.extent alg.new }
-    ensures earlier { (v : ℕ → Bool) → A.admits alg.new v → A.admits alg.old v }
-    ensures opaque { A.opaque alg.new ≡ A.opaque alg.old }
-    ensures made { IfOk result (λ r. r ≡ (jcc_term A.ops condition (A.held alg.old) from.now).effect) }
-    ensures held { OnOk result (A.held alg.new ≡ (jcc_term A.ops condition (A.held alg.old) from.now).held) }
+    ensures later { IsLater A.Alg alg.old alg.new }
+    ensures makes { IfOk result (λ r. record { effect = r; held = A.held alg.new } ≡ jcc_term A.ops condition (A.held alg.old) from.now) }
     ensures fails { OnErr result (IsTrue A.takes_memory) }
-    ensures owned { IfOk result (λ r. IsEffectOwned A.word_reach A.flag_reach (A.extent alg.new) r) }
-    ensures means { IfOk result (λ r. (v : ℕ → Bool) → A.admits alg.new v → effect_meant (λ w. A.word w v) (λ b. A.truth b v) r ≡ (jcc_term plain_operations condition tt (meant (λ w. A.word w v) (λ b. A.truth b v) from.now)).effect) }
+    ensures gives { IfOk result (λ r. GivesEffect A.Alg alg.new r (λ v. (jcc_term plain_operations condition tt (meant (λ w. A.word w v) (λ b. A.truth b v) from.now)).effect)) }
 {
     let holds = condition_of(alg, condition, from)?;
     let kept = kept(alg, from.x, from);
@@ -124,14 +109,10 @@ pub(crate) fn jcc<A: Alg>(
 /// A jump without a condition.
 pub(crate) fn jump<A: Alg>(alg: &mut A, from: &HostIn<A>) -> Result<HostEffect<A>, NoMemory>
     requires owned { IsOwned A.word_reach A.flag_reach (A.extent alg.old) from.now }
-    ensures grows { A.extent alg.old ≤ A.extent alg.new }
-    ensures earlier { (v : ℕ → Bool) → A.admits alg.new v → A.admits alg.old v }
-    ensures opaque { A.opaque alg.new ≡ A.opaque alg.old }
-    ensures made { IfOk result (λ r. r ≡ (jump_term A.ops (A.held alg.old) from.now).effect) }
-    ensures held { OnOk result (A.held alg.new ≡ (jump_term A.ops (A.held alg.old) from.now).held) }
+    ensures later { IsLater A.Alg alg.old alg.new }
+    ensures makes { IfOk result (λ r. record { effect = r; held = A.held alg.new } ≡ jump_term A.ops (A.held alg.old) from.now) }
     ensures fails { OnErr result (IsTrue A.takes_memory) }
-    ensures owned { IfOk result (λ r. IsEffectOwned A.word_reach A.flag_reach (A.extent alg.new) r) }
-    ensures means { IfOk result (λ r. (v : ℕ → Bool) → A.admits alg.new v → effect_meant (λ w. A.word w v) (λ b. A.truth b v) r ≡ (jump_term plain_operations tt (meant (λ w. A.word w v) (λ b. A.truth b v) from.now)).effect) }
+    ensures gives { IfOk result (λ r. GivesEffect A.Alg alg.new r (λ v. (jump_term plain_operations tt (meant (λ w. A.word w v) (λ b. A.truth b v) from.now)).effect)) }
 {
     let holds = alg.flag(true);
     let kept = kept(alg, from.x, from);

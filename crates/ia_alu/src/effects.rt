@@ -1,9 +1,10 @@
 //! The effect of an op.
 
-ghost use Rattle.std.specs.Prelude.{◌≡◌, ◌≤◌, ℕ, Bool, false, IfOk, OnOk, OnErr, IsTrue};
+ghost use Rattle.std.specs.Prelude.{◌≡◌, false, IfOk, OnErr, IsTrue};
+ghost use Rattle.word_kit.specs.Algebra.{MayUntie};
 ghost use Rattle.ia_codec.specs.Rows.{host_row};
 ghost use Rattle.ia_codec.specs.Spelling.{IsInProfile};
-ghost use Rattle.ia_alu.specs.Values.{IsOwned, IsEffectOwned, is_product, values_of, outcome_of};
+ghost use Rattle.ia_alu.specs.Values.{IsOwned, is_product, values_of, GivesOutcome};
 ghost use Rattle.ia_alu.specs.Terms.{row_term};
 
 use crate::rows::row;
@@ -18,15 +19,11 @@ use word_kit::{Alg, NoMemory};
 pub fn effect<A: Alg>(alg: &mut A, op: &Op, from: &HostIn<A>) -> Result<HostEffect<A>, NoMemory>
     requires profile { IsInProfile op.now }
     requires owned { IsOwned A.word_reach A.flag_reach (A.extent alg.old) from.now }
-    ensures grows { A.extent alg.old ≤ A.extent alg.new }
-    ensures earlier { (v : ℕ → Bool) → A.admits alg.new v → A.admits alg.old v }
-    ensures rises { A.opaque alg.old ≤ A.opaque alg.new }
+    ensures later { MayUntie A.Alg alg.old alg.new }
     ensures opaque { is_product op.now ≡ false → A.opaque alg.new ≡ A.opaque alg.old }
-    ensures made { IfOk result (λ r. r ≡ (row_term A.ops op.now (A.held alg.old) from.now).effect) }
-    ensures held { OnOk result (A.held alg.new ≡ (row_term A.ops op.now (A.held alg.old) from.now).held) }
+    ensures makes { IfOk result (λ r. record { effect = r; held = A.held alg.new } ≡ row_term A.ops op.now (A.held alg.old) from.now) }
     ensures fails { OnErr result (IsTrue A.takes_memory) }
-    ensures owned { IfOk result (λ r. IsEffectOwned A.word_reach A.flag_reach (A.extent alg.new) r) }
-    ensures means { IfOk result (λ r. (v : ℕ → Bool) → A.admits alg.new v → outcome_of (λ w. A.word w v) (λ b. A.truth b v) r ≡ host_row op.now (values_of (λ w. A.word w v) (λ b. A.truth b v) from.now)) }
+    ensures gives { IfOk result (λ r. GivesOutcome A.Alg alg.new r (λ v. host_row op.now (values_of (λ w. A.word w v) (λ b. A.truth b v) from.now))) }
 {
     row(alg, *op, from)
 }

@@ -1,8 +1,9 @@
 //! Logic: and, or, xor, test; and the choice among the ops of their encoding.
 
-ghost use Rattle.std.specs.Prelude.{◌≡◌, ◌≤◌, ◌<◌, ℕ, Bool, true, false, IfOk, OnOk, OnErr, IsTrue};
+ghost use Rattle.std.specs.Prelude.{◌≡◌, ◌≤◌, IfOk, OnErr, IsTrue};
+ghost use Rattle.word_kit.specs.Algebra.{IsLater};
 ghost use Rattle.word_kit.specs.PlainOperations.{plain_operations};
-ghost use Rattle.ia_alu.specs.Values.{IsOwned, IsEffectOwned, meant, effect_meant};
+ghost use Rattle.ia_alu.specs.Values.{IsOwned, meant, GivesEffect};
 ghost use Rattle.ia_alu.specs.Terms.{logic_term, test_term, alu_term};
 
 use crate::moves::kept;
@@ -20,14 +21,10 @@ pub(crate) fn logic<A: Alg>(
 ) -> Result<HostEffect<A>, NoMemory>
     requires value_owned { A.word_reach value ≤ A.extent alg.old }
     requires owned { IsOwned A.word_reach A.flag_reach (A.extent alg.old) from.now }
-    ensures grows { A.extent alg.old ≤ A.extent alg.new }
-    ensures earlier { (v : ℕ → Bool) → A.admits alg.new v → A.admits alg.old v }
-    ensures opaque { A.opaque alg.new ≡ A.opaque alg.old }
-    ensures made { IfOk result (λ r. r ≡ (logic_term A.ops (record { word = value; held = (A.held alg.old) }) from.now).effect) }
-    ensures held { OnOk result (A.held alg.new ≡ (logic_term A.ops (record { word = value; held = (A.held alg.old) }) from.now).held) }
+    ensures later { IsLater A.Alg alg.old alg.new }
+    ensures makes { IfOk result (λ r. record { effect = r; held = A.held alg.new } ≡ logic_term A.ops (record { word = value; held = (A.held alg.old) }) from.now) }
     ensures fails { OnErr result (IsTrue A.takes_memory) }
-    ensures owned { IfOk result (λ r. IsEffectOwned A.word_reach A.flag_reach (A.extent alg.new) r) }
-    ensures means { IfOk result (λ r. (v : ℕ → Bool) → A.admits alg.new v → effect_meant (λ w. A.word w v) (λ b. A.truth b v) r ≡ (logic_term plain_operations (record { word = (A.word value v); held = tt }) (meant (λ w. A.word w v) (λ b. A.truth b v) from.now)).effect) }
+    ensures gives { IfOk result (λ r. GivesEffect A.Alg alg.new r (λ v. (logic_term plain_operations (record { word = (A.word value v); held = tt }) (meant (λ w. A.word w v) (λ b. A.truth b v) from.now)).effect)) }
 {
     let zf = is_zero(alg, value)?;
     let sf = alg.bit(value, 31);
@@ -45,14 +42,10 @@ pub(crate) fn logic<A: Alg>(
 /// and of both operands.
 pub(crate) fn and_row<A: Alg>(alg: &mut A, from: &HostIn<A>) -> Result<HostEffect<A>, NoMemory>
     requires owned { IsOwned A.word_reach A.flag_reach (A.extent alg.old) from.now }
-    ensures grows { A.extent alg.old ≤ A.extent alg.new }
-    ensures earlier { (v : ℕ → Bool) → A.admits alg.new v → A.admits alg.old v }
-    ensures opaque { A.opaque alg.new ≡ A.opaque alg.old }
-    ensures made { IfOk result (λ r. r ≡ (logic_term A.ops (A.ops.and_of (A.held alg.old) from.now.x from.now.y) from.now).effect) }
-    ensures held { OnOk result (A.held alg.new ≡ (logic_term A.ops (A.ops.and_of (A.held alg.old) from.now.x from.now.y) from.now).held) }
+    ensures later { IsLater A.Alg alg.old alg.new }
+    ensures makes { IfOk result (λ r. record { effect = r; held = A.held alg.new } ≡ logic_term A.ops (A.ops.and_of (A.held alg.old) from.now.x from.now.y) from.now) }
     ensures fails { OnErr result (IsTrue A.takes_memory) }
-    ensures owned { IfOk result (λ r. IsEffectOwned A.word_reach A.flag_reach (A.extent alg.new) r) }
-    ensures means { IfOk result (λ r. (v : ℕ → Bool) → A.admits alg.new v → effect_meant (λ w. A.word w v) (λ b. A.truth b v) r ≡ (logic_term plain_operations (plain_operations.and_of tt (A.word from.now.x v) (A.word from.now.y v)) (meant (λ w. A.word w v) (λ b. A.truth b v) from.now)).effect) }
+    ensures gives { IfOk result (λ r. GivesEffect A.Alg alg.new r (λ v. (logic_term plain_operations (plain_operations.and_of tt (A.word from.now.x v) (A.word from.now.y v)) (meant (λ w. A.word w v) (λ b. A.truth b v) from.now)).effect)) }
 {
     let value = alg.and(from.x, from.y)?;
     logic(alg, value, from)
@@ -61,14 +54,10 @@ pub(crate) fn and_row<A: Alg>(alg: &mut A, from: &HostIn<A>) -> Result<HostEffec
 /// or of both operands.
 pub(crate) fn or_row<A: Alg>(alg: &mut A, from: &HostIn<A>) -> Result<HostEffect<A>, NoMemory>
     requires owned { IsOwned A.word_reach A.flag_reach (A.extent alg.old) from.now }
-    ensures grows { A.extent alg.old ≤ A.extent alg.new }
-    ensures earlier { (v : ℕ → Bool) → A.admits alg.new v → A.admits alg.old v }
-    ensures opaque { A.opaque alg.new ≡ A.opaque alg.old }
-    ensures made { IfOk result (λ r. r ≡ (logic_term A.ops (A.ops.or_of (A.held alg.old) from.now.x from.now.y) from.now).effect) }
-    ensures held { OnOk result (A.held alg.new ≡ (logic_term A.ops (A.ops.or_of (A.held alg.old) from.now.x from.now.y) from.now).held) }
+    ensures later { IsLater A.Alg alg.old alg.new }
+    ensures makes { IfOk result (λ r. record { effect = r; held = A.held alg.new } ≡ logic_term A.ops (A.ops.or_of (A.held alg.old) from.now.x from.now.y) from.now) }
     ensures fails { OnErr result (IsTrue A.takes_memory) }
-    ensures owned { IfOk result (λ r. IsEffectOwned A.word_reach A.flag_reach (A.extent alg.new) r) }
-    ensures means { IfOk result (λ r. (v : ℕ → Bool) → A.admits alg.new v → effect_meant (λ w. A.word w v) (λ b. A.truth b v) r ≡ (logic_term plain_operations (plain_operations.or_of tt (A.word from.now.x v) (A.word from.now.y v)) (meant (λ w. A.word w v) (λ b. A.truth b v) from.now)).effect) }
+    ensures gives { IfOk result (λ r. GivesEffect A.Alg alg.new r (λ v. (logic_term plain_operations (plain_operations.or_of tt (A.word from.now.x v) (A.word from.now.y v)) (meant (λ w. A.word w v) (λ b. A.truth b v) from.now)).effect)) }
 {
     let value = alg.or(from.x, from.y)?;
     logic(alg, value, from)
@@ -77,14 +66,10 @@ pub(crate) fn or_row<A: Alg>(alg: &mut A, from: &HostIn<A>) -> Result<HostEffect
 /// xor of both operands.
 pub(crate) fn xor_row<A: Alg>(alg: &mut A, from: &HostIn<A>) -> Result<HostEffect<A>, NoMemory>
     requires owned { IsOwned A.word_reach A.flag_reach (A.extent alg.old) from.now }
-    ensures grows { A.extent alg.old ≤ A.extent alg.new }
-    ensures earlier { (v : ℕ → Bool) → A.admits alg.new v → A.admits alg.old v }
-    ensures opaque { A.opaque alg.new ≡ A.opaque alg.old }
-    ensures made { IfOk result (λ r. r ≡ (logic_term A.ops (A.ops.xor_of (A.held alg.old) from.now.x from.now.y) from.now).effect) }
-    ensures held { OnOk result (A.held alg.new ≡ (logic_term A.ops (A.ops.xor_of (A.held alg.old) from.now.x from.now.y) from.now).held) }
+    ensures later { IsLater A.Alg alg.old alg.new }
+    ensures makes { IfOk result (λ r. record { effect = r; held = A.held alg.new } ≡ logic_term A.ops (A.ops.xor_of (A.held alg.old) from.now.x from.now.y) from.now) }
     ensures fails { OnErr result (IsTrue A.takes_memory) }
-    ensures owned { IfOk result (λ r. IsEffectOwned A.word_reach A.flag_reach (A.extent alg.new) r) }
-    ensures means { IfOk result (λ r. (v : ℕ → Bool) → A.admits alg.new v → effect_meant (λ w. A.word w v) (λ b. A.truth b v) r ≡ (logic_term plain_operations (plain_operations.xor_of tt (A.word from.now.x v) (A.word from.now.y v)) (meant (λ w. A.word w v) (λ b. A.truth b v) from.now)).effect) }
+    ensures gives { IfOk result (λ r. GivesEffect A.Alg alg.new r (λ v. (logic_term plain_operations (plain_operations.xor_of tt (A.word from.now.x v) (A.word from.now.y v)) (meant (λ w. A.word w v) (λ b. A.truth b v) from.now)).effect)) }
 {
     let value = alg.xor(from.x, from.y)?;
     logic(alg, value, from)
@@ -93,14 +78,10 @@ pub(crate) fn xor_row<A: Alg>(alg: &mut A, from: &HostIn<A>) -> Result<HostEffec
 /// The flags of and, without its result.
 pub(crate) fn test<A: Alg>(alg: &mut A, from: &HostIn<A>) -> Result<HostEffect<A>, NoMemory>
     requires owned { IsOwned A.word_reach A.flag_reach (A.extent alg.old) from.now }
-    ensures grows { A.extent alg.old ≤ A.extent alg.new }
-    ensures earlier { (v : ℕ → Bool) → A.admits alg.new v → A.admits alg.old v }
-    ensures opaque { A.opaque alg.new ≡ A.opaque alg.old }
-    ensures made { IfOk result (λ r. r ≡ (test_term A.ops (A.held alg.old) from.now).effect) }
-    ensures held { OnOk result (A.held alg.new ≡ (test_term A.ops (A.held alg.old) from.now).held) }
+    ensures later { IsLater A.Alg alg.old alg.new }
+    ensures makes { IfOk result (λ r. record { effect = r; held = A.held alg.new } ≡ test_term A.ops (A.held alg.old) from.now) }
     ensures fails { OnErr result (IsTrue A.takes_memory) }
-    ensures owned { IfOk result (λ r. IsEffectOwned A.word_reach A.flag_reach (A.extent alg.new) r) }
-    ensures means { IfOk result (λ r. (v : ℕ → Bool) → A.admits alg.new v → effect_meant (λ w. A.word w v) (λ b. A.truth b v) r ≡ (test_term plain_operations tt (meant (λ w. A.word w v) (λ b. A.truth b v) from.now)).effect) }
+    ensures gives { IfOk result (λ r. GivesEffect A.Alg alg.new r (λ v. (test_term plain_operations tt (meant (λ w. A.word w v) (λ b. A.truth b v) from.now)).effect)) }
 {
     let logic = and_row(alg, from)?;
     Ok(HostEffect {
@@ -116,14 +97,10 @@ pub(crate) fn alu<A: Alg>(
     from: &HostIn<A>,
 ) -> Result<HostEffect<A>, NoMemory>
     requires owned { IsOwned A.word_reach A.flag_reach (A.extent alg.old) from.now }
-    ensures grows { A.extent alg.old ≤ A.extent alg.new }
-    ensures earlier { (v : ℕ → Bool) → A.admits alg.new v → A.admits alg.old v }
-    ensures opaque { A.opaque alg.new ≡ A.opaque alg.old }
-    ensures made { IfOk result (λ r. r ≡ (alu_term A.ops op (A.held alg.old) from.now).effect) }
-    ensures held { OnOk result (A.held alg.new ≡ (alu_term A.ops op (A.held alg.old) from.now).held) }
+    ensures later { IsLater A.Alg alg.old alg.new }
+    ensures makes { IfOk result (λ r. record { effect = r; held = A.held alg.new } ≡ alu_term A.ops op (A.held alg.old) from.now) }
     ensures fails { OnErr result (IsTrue A.takes_memory) }
-    ensures owned { IfOk result (λ r. IsEffectOwned A.word_reach A.flag_reach (A.extent alg.new) r) }
-    ensures means { IfOk result (λ r. (v : ℕ → Bool) → A.admits alg.new v → effect_meant (λ w. A.word w v) (λ b. A.truth b v) r ≡ (alu_term plain_operations op tt (meant (λ w. A.word w v) (λ b. A.truth b v) from.now)).effect) }
+    ensures gives { IfOk result (λ r. GivesEffect A.Alg alg.new r (λ v. (alu_term plain_operations op tt (meant (λ w. A.word w v) (λ b. A.truth b v) from.now)).effect)) }
 {
     match op {
         AluOp::Add => {

@@ -1,8 +1,9 @@
 //! Moves and extensions: mov, lea, movzx, movsx, bswap, cdq.
 
-ghost use Rattle.std.specs.Prelude.{◌≡◌, ◌≤◌, ◌<◌, ℕ, Bool, true, false, IfOk, OnOk, OnErr, IsTrue};
+ghost use Rattle.std.specs.Prelude.{◌≡◌, ◌≤◌, ℕ, Bool, IfOk, OnErr, IsTrue};
+ghost use Rattle.word_kit.specs.Algebra.{IsLater};
 ghost use Rattle.word_kit.specs.PlainOperations.{plain_operations};
-ghost use Rattle.ia_alu.specs.Values.{IsOwned, IsEffectOwned, meant, effect_meant};
+ghost use Rattle.ia_alu.specs.Values.{IsOwned, IsEffectOwned, meant, effect_meant, GivesEffect};
 ghost use Rattle.ia_alu.specs.Terms.{kept_term, moved_term, signed_term, extend_term, copies_term};
 ghost use Rattle.ia_alu.specs.Parts.{byte_term, half_term, swapped_term};
 
@@ -40,14 +41,10 @@ pub(crate) fn moved<A: Alg>(
 ) -> Result<HostEffect<A>, NoMemory>
     requires value_owned { A.word_reach value ≤ A.extent alg.old }
     requires owned { IsOwned A.word_reach A.flag_reach (A.extent alg.old) from.now }
-    ensures grows { A.extent alg.old ≤ A.extent alg.new }
-    ensures earlier { (v : ℕ → Bool) → A.admits alg.new v → A.admits alg.old v }
-    ensures opaque { A.opaque alg.new ≡ A.opaque alg.old }
-    ensures made { IfOk result (λ r. r ≡ (moved_term A.ops (A.held alg.old) value from.now).effect) }
-    ensures held { OnOk result (A.held alg.new ≡ (moved_term A.ops (A.held alg.old) value from.now).held) }
+    ensures later { IsLater A.Alg alg.old alg.new }
+    ensures makes { IfOk result (λ r. record { effect = r; held = A.held alg.new } ≡ moved_term A.ops (A.held alg.old) value from.now) }
     ensures fails { OnErr result (IsTrue A.takes_memory) }
-    ensures owned { IfOk result (λ r. IsEffectOwned A.word_reach A.flag_reach (A.extent alg.new) r) }
-    ensures means { IfOk result (λ r. (v : ℕ → Bool) → A.admits alg.new v → effect_meant (λ w. A.word w v) (λ b. A.truth b v) r ≡ (moved_term plain_operations tt (A.word value v) (meant (λ w. A.word w v) (λ b. A.truth b v) from.now)).effect) }
+    ensures gives { IfOk result (λ r. GivesEffect A.Alg alg.new r (λ v. (moved_term plain_operations tt (A.word value v) (meant (λ w. A.word w v) (λ b. A.truth b v) from.now)).effect)) }
 {
     Ok(kept(alg, value, from))
 }
@@ -55,14 +52,10 @@ pub(crate) fn moved<A: Alg>(
 /// The low byte.
 pub(crate) fn low_byte<A: Alg>(alg: &mut A, from: &HostIn<A>) -> Result<HostEffect<A>, NoMemory>
     requires owned { IsOwned A.word_reach A.flag_reach (A.extent alg.old) from.now }
-    ensures grows { A.extent alg.old ≤ A.extent alg.new }
-    ensures earlier { (v : ℕ → Bool) → A.admits alg.new v → A.admits alg.old v }
-    ensures opaque { A.opaque alg.new ≡ A.opaque alg.old }
-    ensures made { IfOk result (λ r. r ≡ (moved_term A.ops (A.held alg.old) (byte_term A.ops from.now.y) from.now).effect) }
-    ensures held { OnOk result (A.held alg.new ≡ (moved_term A.ops (A.held alg.old) (byte_term A.ops from.now.y) from.now).held) }
+    ensures later { IsLater A.Alg alg.old alg.new }
+    ensures makes { IfOk result (λ r. record { effect = r; held = A.held alg.new } ≡ moved_term A.ops (A.held alg.old) (byte_term A.ops from.now.y) from.now) }
     ensures fails { OnErr result (IsTrue A.takes_memory) }
-    ensures owned { IfOk result (λ r. IsEffectOwned A.word_reach A.flag_reach (A.extent alg.new) r) }
-    ensures means { IfOk result (λ r. (v : ℕ → Bool) → A.admits alg.new v → effect_meant (λ w. A.word w v) (λ b. A.truth b v) r ≡ (moved_term plain_operations tt (byte_term plain_operations (A.word from.now.y v)) (meant (λ w. A.word w v) (λ b. A.truth b v) from.now)).effect) }
+    ensures gives { IfOk result (λ r. GivesEffect A.Alg alg.new r (λ v. (moved_term plain_operations tt (byte_term plain_operations (A.word from.now.y v)) (meant (λ w. A.word w v) (λ b. A.truth b v) from.now)).effect)) }
 {
     let byte = alg.byte(from.y, 0);
     moved(alg, byte, from)
@@ -71,14 +64,10 @@ pub(crate) fn low_byte<A: Alg>(alg: &mut A, from: &HostIn<A>) -> Result<HostEffe
 /// The low 16 bits.
 pub(crate) fn low_half<A: Alg>(alg: &mut A, from: &HostIn<A>) -> Result<HostEffect<A>, NoMemory>
     requires owned { IsOwned A.word_reach A.flag_reach (A.extent alg.old) from.now }
-    ensures grows { A.extent alg.old ≤ A.extent alg.new }
-    ensures earlier { (v : ℕ → Bool) → A.admits alg.new v → A.admits alg.old v }
-    ensures opaque { A.opaque alg.new ≡ A.opaque alg.old }
-    ensures made { IfOk result (λ r. r ≡ (moved_term A.ops (A.held alg.old) (half_term A.ops from.now.y) from.now).effect) }
-    ensures held { OnOk result (A.held alg.new ≡ (moved_term A.ops (A.held alg.old) (half_term A.ops from.now.y) from.now).held) }
+    ensures later { IsLater A.Alg alg.old alg.new }
+    ensures makes { IfOk result (λ r. record { effect = r; held = A.held alg.new } ≡ moved_term A.ops (A.held alg.old) (half_term A.ops from.now.y) from.now) }
     ensures fails { OnErr result (IsTrue A.takes_memory) }
-    ensures owned { IfOk result (λ r. IsEffectOwned A.word_reach A.flag_reach (A.extent alg.new) r) }
-    ensures means { IfOk result (λ r. (v : ℕ → Bool) → A.admits alg.new v → effect_meant (λ w. A.word w v) (λ b. A.truth b v) r ≡ (moved_term plain_operations tt (half_term plain_operations (A.word from.now.y v)) (meant (λ w. A.word w v) (λ b. A.truth b v) from.now)).effect) }
+    ensures gives { IfOk result (λ r. GivesEffect A.Alg alg.new r (λ v. (moved_term plain_operations tt (half_term plain_operations (A.word from.now.y v)) (meant (λ w. A.word w v) (λ b. A.truth b v) from.now)).effect)) }
 {
     let zero = alg.lit(0);
     let b1 = alg.byte(from.y, 1);
@@ -90,14 +79,10 @@ pub(crate) fn low_half<A: Alg>(alg: &mut A, from: &HostIn<A>) -> Result<HostEffe
 /// The bytes in the opposite order.
 pub(crate) fn swapped<A: Alg>(alg: &mut A, from: &HostIn<A>) -> Result<HostEffect<A>, NoMemory>
     requires owned { IsOwned A.word_reach A.flag_reach (A.extent alg.old) from.now }
-    ensures grows { A.extent alg.old ≤ A.extent alg.new }
-    ensures earlier { (v : ℕ → Bool) → A.admits alg.new v → A.admits alg.old v }
-    ensures opaque { A.opaque alg.new ≡ A.opaque alg.old }
-    ensures made { IfOk result (λ r. r ≡ (moved_term A.ops (A.held alg.old) (swapped_term A.ops from.now.y) from.now).effect) }
-    ensures held { OnOk result (A.held alg.new ≡ (moved_term A.ops (A.held alg.old) (swapped_term A.ops from.now.y) from.now).held) }
+    ensures later { IsLater A.Alg alg.old alg.new }
+    ensures makes { IfOk result (λ r. record { effect = r; held = A.held alg.new } ≡ moved_term A.ops (A.held alg.old) (swapped_term A.ops from.now.y) from.now) }
     ensures fails { OnErr result (IsTrue A.takes_memory) }
-    ensures owned { IfOk result (λ r. IsEffectOwned A.word_reach A.flag_reach (A.extent alg.new) r) }
-    ensures means { IfOk result (λ r. (v : ℕ → Bool) → A.admits alg.new v → effect_meant (λ w. A.word w v) (λ b. A.truth b v) r ≡ (moved_term plain_operations tt (swapped_term plain_operations (A.word from.now.y v)) (meant (λ w. A.word w v) (λ b. A.truth b v) from.now)).effect) }
+    ensures gives { IfOk result (λ r. GivesEffect A.Alg alg.new r (λ v. (moved_term plain_operations tt (swapped_term plain_operations (A.word from.now.y v)) (meant (λ w. A.word w v) (λ b. A.truth b v) from.now)).effect)) }
 {
     let b0 = alg.byte(from.y, 0);
     let b1 = alg.byte(from.y, 1);
@@ -114,14 +99,10 @@ pub(crate) fn with_sign<A: Alg>(
     from: &HostIn<A>,
 ) -> Result<HostEffect<A>, NoMemory>
     requires owned { IsOwned A.word_reach A.flag_reach (A.extent alg.old) from.now }
-    ensures grows { A.extent alg.old ≤ A.extent alg.new }
-    ensures earlier { (v : ℕ → Bool) → A.admits alg.new v → A.admits alg.old v }
-    ensures opaque { A.opaque alg.new ≡ A.opaque alg.old }
-    ensures made { IfOk result (λ r. r ≡ (signed_term A.ops bits (A.held alg.old) from.now).effect) }
-    ensures held { OnOk result (A.held alg.new ≡ (signed_term A.ops bits (A.held alg.old) from.now).held) }
+    ensures later { IsLater A.Alg alg.old alg.new }
+    ensures makes { IfOk result (λ r. record { effect = r; held = A.held alg.new } ≡ signed_term A.ops bits (A.held alg.old) from.now) }
     ensures fails { OnErr result (IsTrue A.takes_memory) }
-    ensures owned { IfOk result (λ r. IsEffectOwned A.word_reach A.flag_reach (A.extent alg.new) r) }
-    ensures means { IfOk result (λ r. (v : ℕ → Bool) → A.admits alg.new v → effect_meant (λ w. A.word w v) (λ b. A.truth b v) r ≡ (signed_term plain_operations bits tt (meant (λ w. A.word w v) (λ b. A.truth b v) from.now)).effect) }
+    ensures gives { IfOk result (λ r. GivesEffect A.Alg alg.new r (λ v. (signed_term plain_operations bits tt (meant (λ w. A.word w v) (λ b. A.truth b v) from.now)).effect)) }
 {
     let amount = alg.lit(bits);
     let up = alg.shift_left(from.y, amount)?;
@@ -136,14 +117,10 @@ pub(crate) fn extend<A: Alg>(
     from: &HostIn<A>,
 ) -> Result<HostEffect<A>, NoMemory>
     requires owned { IsOwned A.word_reach A.flag_reach (A.extent alg.old) from.now }
-    ensures grows { A.extent alg.old ≤ A.extent alg.new }
-    ensures earlier { (v : ℕ → Bool) → A.admits alg.new v → A.admits alg.old v }
-    ensures opaque { A.opaque alg.new ≡ A.opaque alg.old }
-    ensures made { IfOk result (λ r. r ≡ (extend_term A.ops op (A.held alg.old) from.now).effect) }
-    ensures held { OnOk result (A.held alg.new ≡ (extend_term A.ops op (A.held alg.old) from.now).held) }
+    ensures later { IsLater A.Alg alg.old alg.new }
+    ensures makes { IfOk result (λ r. record { effect = r; held = A.held alg.new } ≡ extend_term A.ops op (A.held alg.old) from.now) }
     ensures fails { OnErr result (IsTrue A.takes_memory) }
-    ensures owned { IfOk result (λ r. IsEffectOwned A.word_reach A.flag_reach (A.extent alg.new) r) }
-    ensures means { IfOk result (λ r. (v : ℕ → Bool) → A.admits alg.new v → effect_meant (λ w. A.word w v) (λ b. A.truth b v) r ≡ (extend_term plain_operations op tt (meant (λ w. A.word w v) (λ b. A.truth b v) from.now)).effect) }
+    ensures gives { IfOk result (λ r. GivesEffect A.Alg alg.new r (λ v. (extend_term plain_operations op tt (meant (λ w. A.word w v) (λ b. A.truth b v) from.now)).effect)) }
 {
     match op {
         ExtendOp::MovzxByte => low_byte(alg, from),
@@ -156,14 +133,10 @@ pub(crate) fn extend<A: Alg>(
 /// cdq.
 pub(crate) fn copies<A: Alg>(alg: &mut A, from: &HostIn<A>) -> Result<HostEffect<A>, NoMemory>
     requires owned { IsOwned A.word_reach A.flag_reach (A.extent alg.old) from.now }
-    ensures grows { A.extent alg.old ≤ A.extent alg.new }
-    ensures earlier { (v : ℕ → Bool) → A.admits alg.new v → A.admits alg.old v }
-    ensures opaque { A.opaque alg.new ≡ A.opaque alg.old }
-    ensures made { IfOk result (λ r. r ≡ (copies_term A.ops (A.held alg.old) from.now).effect) }
-    ensures held { OnOk result (A.held alg.new ≡ (copies_term A.ops (A.held alg.old) from.now).held) }
+    ensures later { IsLater A.Alg alg.old alg.new }
+    ensures makes { IfOk result (λ r. record { effect = r; held = A.held alg.new } ≡ copies_term A.ops (A.held alg.old) from.now) }
     ensures fails { OnErr result (IsTrue A.takes_memory) }
-    ensures owned { IfOk result (λ r. IsEffectOwned A.word_reach A.flag_reach (A.extent alg.new) r) }
-    ensures means { IfOk result (λ r. (v : ℕ → Bool) → A.admits alg.new v → effect_meant (λ w. A.word w v) (λ b. A.truth b v) r ≡ (copies_term plain_operations tt (meant (λ w. A.word w v) (λ b. A.truth b v) from.now)).effect) }
+    ensures gives { IfOk result (λ r. GivesEffect A.Alg alg.new r (λ v. (copies_term plain_operations tt (meant (λ w. A.word w v) (λ b. A.truth b v) from.now)).effect)) }
 {
     let amount = alg.lit(31);
     let sign = alg.shift_arith(from.x, amount)?;

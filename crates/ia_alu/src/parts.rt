@@ -1,6 +1,7 @@
 //! Flags that several rows make.
 
-ghost use Rattle.std.specs.Prelude.{◌≡◌, ◌≤◌, ◌<◌, ℕ, Bool, true, false, IfOk, OnOk, OnErr, IsTrue};
+ghost use Rattle.std.specs.Prelude.{◌≡◌, ◌≤◌, IfOk, OnErr, IsTrue};
+ghost use Rattle.word_kit.specs.Algebra.{IsLater, GivesFlag};
 ghost use Rattle.word_kit.specs.PlainOperations.{plain_operations};
 ghost use Rattle.ia_alu.specs.Parts.{choose_term, zero_term, overflow_term, count_term, last_left_term, last_right_term, zero_after_term, over_after_term};
 
@@ -11,14 +12,10 @@ pub(crate) fn choose<A: Alg>(alg: &mut A, b: A::B, c: A::B, d: A::B) -> Result<A
     requires b_owned { A.flag_reach b ≤ A.extent alg.old }
     requires c_owned { A.flag_reach c ≤ A.extent alg.old }
     requires d_owned { A.flag_reach d ≤ A.extent alg.old }
-    ensures grows { A.extent alg.old ≤ A.extent alg.new }
-    ensures earlier { (v : ℕ → Bool) → A.admits alg.new v → A.admits alg.old v }
-    ensures opaque { A.opaque alg.new ≡ A.opaque alg.old }
-    ensures made { IfOk result (λ r. r ≡ (choose_term A.ops (A.held alg.old) b c d).flag) }
-    ensures held { OnOk result (A.held alg.new ≡ (choose_term A.ops (A.held alg.old) b c d).held) }
+    ensures later { IsLater A.Alg alg.old alg.new }
+    ensures makes { IfOk result (λ r. record { flag = r; held = A.held alg.new } ≡ choose_term A.ops (A.held alg.old) b c d) }
     ensures fails { OnErr result (IsTrue A.takes_memory) }
-    ensures owned { IfOk result (λ r. A.flag_reach r ≤ A.extent alg.new) }
-    ensures means { IfOk result (λ r. (v : ℕ → Bool) → A.admits alg.new v → A.truth r v ≡ (choose_term plain_operations tt (A.truth b v) (A.truth c v) (A.truth d v)).flag) }
+    ensures gives { IfOk result (λ r. GivesFlag A.Alg alg.new r (λ v. (choose_term plain_operations tt (A.truth b v) (A.truth c v) (A.truth d v)).flag)) }
 {
     let zero = alg.lit(0);
     let one = alg.put_bit(zero, 0, c);
@@ -30,14 +27,10 @@ pub(crate) fn choose<A: Alg>(alg: &mut A, b: A::B, c: A::B, d: A::B) -> Result<A
 /// Whether a word is 0.
 pub(crate) fn is_zero<A: Alg>(alg: &mut A, x: A::W) -> Result<A::B, NoMemory>
     requires x_owned { A.word_reach x ≤ A.extent alg.old }
-    ensures grows { A.extent alg.old ≤ A.extent alg.new }
-    ensures earlier { (v : ℕ → Bool) → A.admits alg.new v → A.admits alg.old v }
-    ensures opaque { A.opaque alg.new ≡ A.opaque alg.old }
-    ensures made { IfOk result (λ r. r ≡ (zero_term A.ops (A.held alg.old) x).flag) }
-    ensures held { OnOk result (A.held alg.new ≡ (zero_term A.ops (A.held alg.old) x).held) }
+    ensures later { IsLater A.Alg alg.old alg.new }
+    ensures makes { IfOk result (λ r. record { flag = r; held = A.held alg.new } ≡ zero_term A.ops (A.held alg.old) x) }
     ensures fails { OnErr result (IsTrue A.takes_memory) }
-    ensures owned { IfOk result (λ r. A.flag_reach r ≤ A.extent alg.new) }
-    ensures means { IfOk result (λ r. (v : ℕ → Bool) → A.admits alg.new v → A.truth r v ≡ (zero_term plain_operations tt (A.word x v)).flag) }
+    ensures gives { IfOk result (λ r. GivesFlag A.Alg alg.new r (λ v. (zero_term plain_operations tt (A.word x v)).flag)) }
 {
     let zero = alg.lit(0);
     alg.equal(x, zero)
@@ -48,14 +41,10 @@ pub(crate) fn overflows<A: Alg>(alg: &mut A, x: A::W, y: A::W, sum: A::W) -> Res
     requires x_owned { A.word_reach x ≤ A.extent alg.old }
     requires y_owned { A.word_reach y ≤ A.extent alg.old }
     requires sum_owned { A.word_reach sum ≤ A.extent alg.old }
-    ensures grows { A.extent alg.old ≤ A.extent alg.new }
-    ensures earlier { (v : ℕ → Bool) → A.admits alg.new v → A.admits alg.old v }
-    ensures opaque { A.opaque alg.new ≡ A.opaque alg.old }
-    ensures made { IfOk result (λ r. r ≡ (overflow_term A.ops (A.held alg.old) x y sum).flag) }
-    ensures held { OnOk result (A.held alg.new ≡ (overflow_term A.ops (A.held alg.old) x y sum).held) }
+    ensures later { IsLater A.Alg alg.old alg.new }
+    ensures makes { IfOk result (λ r. record { flag = r; held = A.held alg.new } ≡ overflow_term A.ops (A.held alg.old) x y sum) }
     ensures fails { OnErr result (IsTrue A.takes_memory) }
-    ensures owned { IfOk result (λ r. A.flag_reach r ≤ A.extent alg.new) }
-    ensures means { IfOk result (λ r. (v : ℕ → Bool) → A.admits alg.new v → A.truth r v ≡ (overflow_term plain_operations tt (A.word x v) (A.word y v) (A.word sum v)).flag) }
+    ensures gives { IfOk result (λ r. GivesFlag A.Alg alg.new r (λ v. (overflow_term plain_operations tt (A.word x v) (A.word y v) (A.word sum v)).flag)) }
 {
     let x_sign = alg.bit(x, 31);
     let y_sign = alg.bit(y, 31);
@@ -68,14 +57,10 @@ pub(crate) fn overflows<A: Alg>(alg: &mut A, x: A::W, y: A::W, sum: A::W) -> Res
 /// Whether the low five bits of a count are a number.
 pub(crate) fn is_count<A: Alg>(alg: &mut A, count: A::W, n: u32) -> Result<A::B, NoMemory>
     requires count_owned { A.word_reach count ≤ A.extent alg.old }
-    ensures grows { A.extent alg.old ≤ A.extent alg.new }
-    ensures earlier { (v : ℕ → Bool) → A.admits alg.new v → A.admits alg.old v }
-    ensures opaque { A.opaque alg.new ≡ A.opaque alg.old }
-    ensures made { IfOk result (λ r. r ≡ (count_term A.ops (A.held alg.old) count n).flag) }
-    ensures held { OnOk result (A.held alg.new ≡ (count_term A.ops (A.held alg.old) count n).held) }
+    ensures later { IsLater A.Alg alg.old alg.new }
+    ensures makes { IfOk result (λ r. record { flag = r; held = A.held alg.new } ≡ count_term A.ops (A.held alg.old) count n) }
     ensures fails { OnErr result (IsTrue A.takes_memory) }
-    ensures owned { IfOk result (λ r. A.flag_reach r ≤ A.extent alg.new) }
-    ensures means { IfOk result (λ r. (v : ℕ → Bool) → A.admits alg.new v → A.truth r v ≡ (count_term plain_operations tt (A.word count v) n).flag) }
+    ensures gives { IfOk result (λ r. GivesFlag A.Alg alg.new r (λ v. (count_term plain_operations tt (A.word count v) n).flag)) }
 {
     let ones = alg.lit(31);
     let low = alg.and(count, ones)?;
@@ -87,14 +72,10 @@ pub(crate) fn is_count<A: Alg>(alg: &mut A, count: A::W, n: u32) -> Result<A::B,
 pub(crate) fn last_left<A: Alg>(alg: &mut A, x: A::W, count: A::W) -> Result<A::B, NoMemory>
     requires x_owned { A.word_reach x ≤ A.extent alg.old }
     requires count_owned { A.word_reach count ≤ A.extent alg.old }
-    ensures grows { A.extent alg.old ≤ A.extent alg.new }
-    ensures earlier { (v : ℕ → Bool) → A.admits alg.new v → A.admits alg.old v }
-    ensures opaque { A.opaque alg.new ≡ A.opaque alg.old }
-    ensures made { IfOk result (λ r. r ≡ (last_left_term A.ops (A.held alg.old) x count).flag) }
-    ensures held { OnOk result (A.held alg.new ≡ (last_left_term A.ops (A.held alg.old) x count).held) }
+    ensures later { IsLater A.Alg alg.old alg.new }
+    ensures makes { IfOk result (λ r. record { flag = r; held = A.held alg.new } ≡ last_left_term A.ops (A.held alg.old) x count) }
     ensures fails { OnErr result (IsTrue A.takes_memory) }
-    ensures owned { IfOk result (λ r. A.flag_reach r ≤ A.extent alg.new) }
-    ensures means { IfOk result (λ r. (v : ℕ → Bool) → A.admits alg.new v → A.truth r v ≡ (last_left_term plain_operations tt (A.word x v) (A.word count v)).flag) }
+    ensures gives { IfOk result (λ r. GivesFlag A.Alg alg.new r (λ v. (last_left_term plain_operations tt (A.word x v) (A.word count v)).flag)) }
 {
     let minus_one = alg.lit(0xffff_ffff);
     let no_carry = alg.flag(false);
@@ -107,14 +88,10 @@ pub(crate) fn last_left<A: Alg>(alg: &mut A, x: A::W, count: A::W) -> Result<A::
 pub(crate) fn last_right<A: Alg>(alg: &mut A, x: A::W, count: A::W) -> Result<A::B, NoMemory>
     requires x_owned { A.word_reach x ≤ A.extent alg.old }
     requires count_owned { A.word_reach count ≤ A.extent alg.old }
-    ensures grows { A.extent alg.old ≤ A.extent alg.new }
-    ensures earlier { (v : ℕ → Bool) → A.admits alg.new v → A.admits alg.old v }
-    ensures opaque { A.opaque alg.new ≡ A.opaque alg.old }
-    ensures made { IfOk result (λ r. r ≡ (last_right_term A.ops (A.held alg.old) x count).flag) }
-    ensures held { OnOk result (A.held alg.new ≡ (last_right_term A.ops (A.held alg.old) x count).held) }
+    ensures later { IsLater A.Alg alg.old alg.new }
+    ensures makes { IfOk result (λ r. record { flag = r; held = A.held alg.new } ≡ last_right_term A.ops (A.held alg.old) x count) }
     ensures fails { OnErr result (IsTrue A.takes_memory) }
-    ensures owned { IfOk result (λ r. A.flag_reach r ≤ A.extent alg.new) }
-    ensures means { IfOk result (λ r. (v : ℕ → Bool) → A.admits alg.new v → A.truth r v ≡ (last_right_term plain_operations tt (A.word x v) (A.word count v)).flag) }
+    ensures gives { IfOk result (λ r. GivesFlag A.Alg alg.new r (λ v. (last_right_term plain_operations tt (A.word x v) (A.word count v)).flag)) }
 {
     let minus_one = alg.lit(0xffff_ffff);
     let no_carry = alg.flag(false);
@@ -133,14 +110,10 @@ pub(crate) fn zero_after<A: Alg>(
     requires none_owned { A.flag_reach none ≤ A.extent alg.old }
     requires old_owned { A.flag_reach old ≤ A.extent alg.old }
     requires value_owned { A.word_reach value ≤ A.extent alg.old }
-    ensures grows { A.extent alg.old ≤ A.extent alg.new }
-    ensures earlier { (v : ℕ → Bool) → A.admits alg.new v → A.admits alg.old v }
-    ensures opaque { A.opaque alg.new ≡ A.opaque alg.old }
-    ensures made { IfOk result (λ r. r ≡ (zero_after_term A.ops (A.held alg.old) none old value).flag) }
-    ensures held { OnOk result (A.held alg.new ≡ (zero_after_term A.ops (A.held alg.old) none old value).held) }
+    ensures later { IsLater A.Alg alg.old alg.new }
+    ensures makes { IfOk result (λ r. record { flag = r; held = A.held alg.new } ≡ zero_after_term A.ops (A.held alg.old) none old value) }
     ensures fails { OnErr result (IsTrue A.takes_memory) }
-    ensures owned { IfOk result (λ r. A.flag_reach r ≤ A.extent alg.new) }
-    ensures means { IfOk result (λ r. (v : ℕ → Bool) → A.admits alg.new v → A.truth r v ≡ (zero_after_term plain_operations tt (A.truth none v) (A.truth old v) (A.word value v)).flag) }
+    ensures gives { IfOk result (λ r. GivesFlag A.Alg alg.new r (λ v. (zero_after_term plain_operations tt (A.truth none v) (A.truth old v) (A.word value v)).flag)) }
 {
     let zero = is_zero(alg, value)?;
     choose(alg, none, old, zero)
@@ -162,14 +135,10 @@ pub(crate) fn over_after<A: Alg>(
     requires p_owned { A.flag_reach p ≤ A.extent alg.old }
     requires q_owned { A.flag_reach q ≤ A.extent alg.old }
     requires free_owned { A.flag_reach free ≤ A.extent alg.old }
-    ensures grows { A.extent alg.old ≤ A.extent alg.new }
-    ensures earlier { (v : ℕ → Bool) → A.admits alg.new v → A.admits alg.old v }
-    ensures opaque { A.opaque alg.new ≡ A.opaque alg.old }
-    ensures made { IfOk result (λ r. r ≡ (over_after_term A.ops (A.held alg.old) none count old p q free).flag) }
-    ensures held { OnOk result (A.held alg.new ≡ (over_after_term A.ops (A.held alg.old) none count old p q free).held) }
+    ensures later { IsLater A.Alg alg.old alg.new }
+    ensures makes { IfOk result (λ r. record { flag = r; held = A.held alg.new } ≡ over_after_term A.ops (A.held alg.old) none count old p q free) }
     ensures fails { OnErr result (IsTrue A.takes_memory) }
-    ensures owned { IfOk result (λ r. A.flag_reach r ≤ A.extent alg.new) }
-    ensures means { IfOk result (λ r. (v : ℕ → Bool) → A.admits alg.new v → A.truth r v ≡ (over_after_term plain_operations tt (A.truth none v) (A.word count v) (A.truth old v) (A.truth p v) (A.truth q v) (A.truth free v)).flag) }
+    ensures gives { IfOk result (λ r. GivesFlag A.Alg alg.new r (λ v. (over_after_term plain_operations tt (A.truth none v) (A.word count v) (A.truth old v) (A.truth p v) (A.truth q v) (A.truth free v)).flag)) }
 {
     let over = alg.differ(p, q)?;
     let once = is_count(alg, count, 1)?;

@@ -1,8 +1,9 @@
 //! Products and divisions: mul, imul of one and of two operands, div, idiv.
 
-ghost use Rattle.std.specs.Prelude.{◌≡◌, ◌≤◌, ◌<◌, ℕ, Bool, true, false, IfOk, OnOk, OnErr, IsTrue};
+ghost use Rattle.std.specs.Prelude.{◌≡◌, ◌≤◌, ℕ, Bool, IfOk, OnErr, IsTrue};
+ghost use Rattle.word_kit.specs.Algebra.{MayUntie};
 ghost use Rattle.word_kit.specs.PlainOperations.{plain_operations};
-ghost use Rattle.ia_alu.specs.Values.{IsOwned, IsEffectOwned, meant, effect_meant};
+ghost use Rattle.ia_alu.specs.Values.{IsOwned, IsEffectOwned, meant, effect_meant, GivesEffect};
 ghost use Rattle.ia_alu.specs.Terms.{product_term, mul_term, imul1_term, imul_term, divide_term};
 
 use crate::moves::kept;
@@ -42,14 +43,10 @@ fn product<A: Alg>(
 /// Both halves of a product of words read as they are.
 pub(crate) fn mul<A: Alg>(alg: &mut A, from: &HostIn<A>) -> Result<HostEffect<A>, NoMemory>
     requires owned { IsOwned A.word_reach A.flag_reach (A.extent alg.old) from.now }
-    ensures grows { A.extent alg.old ≤ A.extent alg.new }
-    ensures earlier { (v : ℕ → Bool) → A.admits alg.new v → A.admits alg.old v }
-    ensures opaque { A.opaque alg.old ≤ A.opaque alg.new }
-    ensures made { IfOk result (λ r. r ≡ (mul_term A.ops (A.held alg.old) from.now).effect) }
-    ensures held { OnOk result (A.held alg.new ≡ (mul_term A.ops (A.held alg.old) from.now).held) }
+    ensures later { MayUntie A.Alg alg.old alg.new }
+    ensures makes { IfOk result (λ r. record { effect = r; held = A.held alg.new } ≡ mul_term A.ops (A.held alg.old) from.now) }
     ensures fails { OnErr result (IsTrue A.takes_memory) }
-    ensures owned { IfOk result (λ r. IsEffectOwned A.word_reach A.flag_reach (A.extent alg.new) r) }
-    ensures means { IfOk result (λ r. (v : ℕ → Bool) → A.admits alg.new v → effect_meant (λ w. A.word w v) (λ b. A.truth b v) r ≡ (mul_term plain_operations tt (meant (λ w. A.word w v) (λ b. A.truth b v) from.now)).effect) }
+    ensures gives { IfOk result (λ r. GivesEffect A.Alg alg.new r (λ v. (mul_term plain_operations tt (meant (λ w. A.word w v) (λ b. A.truth b v) from.now)).effect)) }
 {
     let low = alg.mul_low(from.x, from.y)?;
     let high = alg.mul_high(from.x, from.y, false)?;
@@ -60,14 +57,10 @@ pub(crate) fn mul<A: Alg>(alg: &mut A, from: &HostIn<A>) -> Result<HostEffect<A>
 /// Both halves of a product of words read as signed.
 pub(crate) fn imul1<A: Alg>(alg: &mut A, from: &HostIn<A>) -> Result<HostEffect<A>, NoMemory>
     requires owned { IsOwned A.word_reach A.flag_reach (A.extent alg.old) from.now }
-    ensures grows { A.extent alg.old ≤ A.extent alg.new }
-    ensures earlier { (v : ℕ → Bool) → A.admits alg.new v → A.admits alg.old v }
-    ensures opaque { A.opaque alg.old ≤ A.opaque alg.new }
-    ensures made { IfOk result (λ r. r ≡ (imul1_term A.ops (A.held alg.old) from.now).effect) }
-    ensures held { OnOk result (A.held alg.new ≡ (imul1_term A.ops (A.held alg.old) from.now).held) }
+    ensures later { MayUntie A.Alg alg.old alg.new }
+    ensures makes { IfOk result (λ r. record { effect = r; held = A.held alg.new } ≡ imul1_term A.ops (A.held alg.old) from.now) }
     ensures fails { OnErr result (IsTrue A.takes_memory) }
-    ensures owned { IfOk result (λ r. IsEffectOwned A.word_reach A.flag_reach (A.extent alg.new) r) }
-    ensures means { IfOk result (λ r. (v : ℕ → Bool) → A.admits alg.new v → effect_meant (λ w. A.word w v) (λ b. A.truth b v) r ≡ (imul1_term plain_operations tt (meant (λ w. A.word w v) (λ b. A.truth b v) from.now)).effect) }
+    ensures gives { IfOk result (λ r. GivesEffect A.Alg alg.new r (λ v. (imul1_term plain_operations tt (meant (λ w. A.word w v) (λ b. A.truth b v) from.now)).effect)) }
 {
     let low = alg.mul_low(from.x, from.y)?;
     let high = alg.mul_high(from.x, from.y, true)?;
@@ -80,14 +73,10 @@ pub(crate) fn imul1<A: Alg>(alg: &mut A, from: &HostIn<A>) -> Result<HostEffect<
 /// The low half of a product of words read as signed.
 pub(crate) fn imul<A: Alg>(alg: &mut A, from: &HostIn<A>) -> Result<HostEffect<A>, NoMemory>
     requires owned { IsOwned A.word_reach A.flag_reach (A.extent alg.old) from.now }
-    ensures grows { A.extent alg.old ≤ A.extent alg.new }
-    ensures earlier { (v : ℕ → Bool) → A.admits alg.new v → A.admits alg.old v }
-    ensures opaque { A.opaque alg.old ≤ A.opaque alg.new }
-    ensures made { IfOk result (λ r. r ≡ (imul_term A.ops (A.held alg.old) from.now).effect) }
-    ensures held { OnOk result (A.held alg.new ≡ (imul_term A.ops (A.held alg.old) from.now).held) }
+    ensures later { MayUntie A.Alg alg.old alg.new }
+    ensures makes { IfOk result (λ r. record { effect = r; held = A.held alg.new } ≡ imul_term A.ops (A.held alg.old) from.now) }
     ensures fails { OnErr result (IsTrue A.takes_memory) }
-    ensures owned { IfOk result (λ r. IsEffectOwned A.word_reach A.flag_reach (A.extent alg.new) r) }
-    ensures means { IfOk result (λ r. (v : ℕ → Bool) → A.admits alg.new v → effect_meant (λ w. A.word w v) (λ b. A.truth b v) r ≡ (imul_term plain_operations tt (meant (λ w. A.word w v) (λ b. A.truth b v) from.now)).effect) }
+    ensures gives { IfOk result (λ r. GivesEffect A.Alg alg.new r (λ v. (imul_term plain_operations tt (meant (λ w. A.word w v) (λ b. A.truth b v) from.now)).effect)) }
 {
     let both = imul1(alg, from)?;
     Ok(HostEffect {
@@ -103,14 +92,10 @@ pub(crate) fn divide<A: Alg>(
     from: &HostIn<A>,
 ) -> Result<HostEffect<A>, NoMemory>
     requires owned { IsOwned A.word_reach A.flag_reach (A.extent alg.old) from.now }
-    ensures grows { A.extent alg.old ≤ A.extent alg.new }
-    ensures earlier { (v : ℕ → Bool) → A.admits alg.new v → A.admits alg.old v }
-    ensures opaque { A.opaque alg.old ≤ A.opaque alg.new }
-    ensures made { IfOk result (λ r. r ≡ (divide_term A.ops signed (A.held alg.old) from.now).effect) }
-    ensures held { OnOk result (A.held alg.new ≡ (divide_term A.ops signed (A.held alg.old) from.now).held) }
+    ensures later { MayUntie A.Alg alg.old alg.new }
+    ensures makes { IfOk result (λ r. record { effect = r; held = A.held alg.new } ≡ divide_term A.ops signed (A.held alg.old) from.now) }
     ensures fails { OnErr result (IsTrue A.takes_memory) }
-    ensures owned { IfOk result (λ r. IsEffectOwned A.word_reach A.flag_reach (A.extent alg.new) r) }
-    ensures means { IfOk result (λ r. (v : ℕ → Bool) → A.admits alg.new v → effect_meant (λ w. A.word w v) (λ b. A.truth b v) r ≡ (divide_term plain_operations signed tt (meant (λ w. A.word w v) (λ b. A.truth b v) from.now)).effect) }
+    ensures gives { IfOk result (λ r. GivesEffect A.Alg alg.new r (λ v. (divide_term plain_operations signed tt (meant (λ w. A.word w v) (λ b. A.truth b v) from.now)).effect)) }
 {
     let (result, high, faults) = alg.div(from.high, from.x, from.y, signed)?;
     let no = alg.flag(false);

@@ -1,8 +1,9 @@
 //! The choice of the row.
 
-ghost use Rattle.std.specs.Prelude.{◌≡◌, ◌≤◌, ◌<◌, ℕ, Bool, true, false, IfOk, OnOk, OnErr, IsTrue};
+ghost use Rattle.std.specs.Prelude.{◌≡◌, false, IfOk, OnErr, IsTrue};
+ghost use Rattle.word_kit.specs.Algebra.{IsLater, MayUntie};
 ghost use Rattle.word_kit.specs.PlainOperations.{plain_operations};
-ghost use Rattle.ia_alu.specs.Values.{IsOwned, IsEffectOwned, is_product, is_product_of_one, meant, effect_meant};
+ghost use Rattle.ia_alu.specs.Values.{IsOwned, is_product, is_product_of_one, meant, GivesEffect};
 ghost use Rattle.ia_alu.specs.Terms.{moved_term, unary_term, shift_term, row_term};
 
 use crate::conditions::{cmov, jcc, jump, set};
@@ -19,14 +20,10 @@ use word_kit::{Alg, NoMemory};
 // All bits turned over.
 fn complement<A: Alg>(alg: &mut A, from: &HostIn<A>) -> Result<HostEffect<A>, NoMemory>
     requires owned { IsOwned A.word_reach A.flag_reach (A.extent alg.old) from.now }
-    ensures grows { A.extent alg.old ≤ A.extent alg.new }
-    ensures earlier { (v : ℕ → Bool) → A.admits alg.new v → A.admits alg.old v }
-    ensures opaque { A.opaque alg.new ≡ A.opaque alg.old }
-    ensures made { IfOk result (λ r. r ≡ (moved_term A.ops (A.held alg.old) (A.ops.not_of from.now.y) from.now).effect) }
-    ensures held { OnOk result (A.held alg.new ≡ (moved_term A.ops (A.held alg.old) (A.ops.not_of from.now.y) from.now).held) }
+    ensures later { IsLater A.Alg alg.old alg.new }
+    ensures makes { IfOk result (λ r. record { effect = r; held = A.held alg.new } ≡ moved_term A.ops (A.held alg.old) (A.ops.not_of from.now.y) from.now) }
     ensures fails { OnErr result (IsTrue A.takes_memory) }
-    ensures owned { IfOk result (λ r. IsEffectOwned A.word_reach A.flag_reach (A.extent alg.new) r) }
-    ensures means { IfOk result (λ r. (v : ℕ → Bool) → A.admits alg.new v → effect_meant (λ w. A.word w v) (λ b. A.truth b v) r ≡ (moved_term plain_operations tt (plain_operations.not_of (A.word from.now.y v)) (meant (λ w. A.word w v) (λ b. A.truth b v) from.now)).effect) }
+    ensures gives { IfOk result (λ r. GivesEffect A.Alg alg.new r (λ v. (moved_term plain_operations tt (plain_operations.not_of (A.word from.now.y v)) (meant (λ w. A.word w v) (λ b. A.truth b v) from.now)).effect)) }
 {
     let value = alg.not(from.y);
     moved(alg, value, from)
@@ -35,15 +32,11 @@ fn complement<A: Alg>(alg: &mut A, from: &HostIn<A>) -> Result<HostEffect<A>, No
 // The ops of one operand.
 fn unary<A: Alg>(alg: &mut A, op: UnaryOp, from: &HostIn<A>) -> Result<HostEffect<A>, NoMemory>
     requires owned { IsOwned A.word_reach A.flag_reach (A.extent alg.old) from.now }
-    ensures grows { A.extent alg.old ≤ A.extent alg.new }
-    ensures earlier { (v : ℕ → Bool) → A.admits alg.new v → A.admits alg.old v }
-    ensures rises { A.opaque alg.old ≤ A.opaque alg.new }
+    ensures later { MayUntie A.Alg alg.old alg.new }
     ensures opaque { is_product_of_one op ≡ false → A.opaque alg.new ≡ A.opaque alg.old }
-    ensures made { IfOk result (λ r. r ≡ (unary_term A.ops op (A.held alg.old) from.now).effect) }
-    ensures held { OnOk result (A.held alg.new ≡ (unary_term A.ops op (A.held alg.old) from.now).held) }
+    ensures makes { IfOk result (λ r. record { effect = r; held = A.held alg.new } ≡ unary_term A.ops op (A.held alg.old) from.now) }
     ensures fails { OnErr result (IsTrue A.takes_memory) }
-    ensures owned { IfOk result (λ r. IsEffectOwned A.word_reach A.flag_reach (A.extent alg.new) r) }
-    ensures means { IfOk result (λ r. (v : ℕ → Bool) → A.admits alg.new v → effect_meant (λ w. A.word w v) (λ b. A.truth b v) r ≡ (unary_term plain_operations op tt (meant (λ w. A.word w v) (λ b. A.truth b v) from.now)).effect) }
+    ensures gives { IfOk result (λ r. GivesEffect A.Alg alg.new r (λ v. (unary_term plain_operations op tt (meant (λ w. A.word w v) (λ b. A.truth b v) from.now)).effect)) }
 {
     match op {
         UnaryOp::Not => complement(alg, from),
@@ -63,14 +56,10 @@ fn shift_by<A: Alg>(
     from: &HostIn<A>,
 ) -> Result<HostEffect<A>, NoMemory>
     requires owned { IsOwned A.word_reach A.flag_reach (A.extent alg.old) from.now }
-    ensures grows { A.extent alg.old ≤ A.extent alg.new }
-    ensures earlier { (v : ℕ → Bool) → A.admits alg.new v → A.admits alg.old v }
-    ensures opaque { A.opaque alg.new ≡ A.opaque alg.old }
-    ensures made { IfOk result (λ r. r ≡ (shift_term A.ops op (A.held alg.old) (A.ops.lit_of by) from.now).effect) }
-    ensures held { OnOk result (A.held alg.new ≡ (shift_term A.ops op (A.held alg.old) (A.ops.lit_of by) from.now).held) }
+    ensures later { IsLater A.Alg alg.old alg.new }
+    ensures makes { IfOk result (λ r. record { effect = r; held = A.held alg.new } ≡ shift_term A.ops op (A.held alg.old) (A.ops.lit_of by) from.now) }
     ensures fails { OnErr result (IsTrue A.takes_memory) }
-    ensures owned { IfOk result (λ r. IsEffectOwned A.word_reach A.flag_reach (A.extent alg.new) r) }
-    ensures means { IfOk result (λ r. (v : ℕ → Bool) → A.admits alg.new v → effect_meant (λ w. A.word w v) (λ b. A.truth b v) r ≡ (shift_term plain_operations op tt (plain_operations.lit_of by) (meant (λ w. A.word w v) (λ b. A.truth b v) from.now)).effect) }
+    ensures gives { IfOk result (λ r. GivesEffect A.Alg alg.new r (λ v. (shift_term plain_operations op tt (plain_operations.lit_of by) (meant (λ w. A.word w v) (λ b. A.truth b v) from.now)).effect)) }
 {
     let count = alg.lit(by as u32);
     shift(alg, op, count, from)
@@ -79,15 +68,11 @@ fn shift_by<A: Alg>(
 /// The row of an op.
 pub(crate) fn row<A: Alg>(alg: &mut A, op: Op, from: &HostIn<A>) -> Result<HostEffect<A>, NoMemory>
     requires owned { IsOwned A.word_reach A.flag_reach (A.extent alg.old) from.now }
-    ensures grows { A.extent alg.old ≤ A.extent alg.new }
-    ensures earlier { (v : ℕ → Bool) → A.admits alg.new v → A.admits alg.old v }
-    ensures rises { A.opaque alg.old ≤ A.opaque alg.new }
+    ensures later { MayUntie A.Alg alg.old alg.new }
     ensures opaque { is_product op ≡ false → A.opaque alg.new ≡ A.opaque alg.old }
-    ensures made { IfOk result (λ r. r ≡ (row_term A.ops op (A.held alg.old) from.now).effect) }
-    ensures held { OnOk result (A.held alg.new ≡ (row_term A.ops op (A.held alg.old) from.now).held) }
+    ensures makes { IfOk result (λ r. record { effect = r; held = A.held alg.new } ≡ row_term A.ops op (A.held alg.old) from.now) }
     ensures fails { OnErr result (IsTrue A.takes_memory) }
-    ensures owned { IfOk result (λ r. IsEffectOwned A.word_reach A.flag_reach (A.extent alg.new) r) }
-    ensures means { IfOk result (λ r. (v : ℕ → Bool) → A.admits alg.new v → effect_meant (λ w. A.word w v) (λ b. A.truth b v) r ≡ (row_term plain_operations op tt (meant (λ w. A.word w v) (λ b. A.truth b v) from.now)).effect) }
+    ensures gives { IfOk result (λ r. GivesEffect A.Alg alg.new r (λ v. (row_term plain_operations op tt (meant (λ w. A.word w v) (λ b. A.truth b v) from.now)).effect)) }
 {
     match op {
         Op::AluTo { op, .. } | Op::AluFrom { op, .. } | Op::AluImm { op, .. } => alu(alg, op, from),

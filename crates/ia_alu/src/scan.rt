@@ -1,8 +1,9 @@
 //! The bit scan: bsr.
 
-ghost use Rattle.std.specs.Prelude.{◌≡◌, ◌≤◌, ◌<◌, ℕ, Bool, true, false, IfOk, OnOk, OnErr, IsTrue};
+ghost use Rattle.std.specs.Prelude.{◌≡◌, ◌≤◌, IfOk, OnErr, IsTrue};
+ghost use Rattle.word_kit.specs.Algebra.{IsLater, GivesWord};
 ghost use Rattle.word_kit.specs.PlainOperations.{plain_operations};
-ghost use Rattle.ia_alu.specs.Values.{IsOwned, IsEffectOwned, meant, effect_meant};
+ghost use Rattle.ia_alu.specs.Values.{IsOwned, meant, GivesEffect};
 ghost use Rattle.ia_alu.specs.Terms.{scan_term};
 ghost use Rattle.ia_alu.specs.Parts.{highest_term};
 
@@ -14,14 +15,10 @@ use word_kit::{Alg, NoMemory};
 // The place of the highest 1, and 0 where there is none.
 fn highest<A: Alg>(alg: &mut A, x: A::W) -> Result<A::W, NoMemory>
     requires x_owned { A.word_reach x ≤ A.extent alg.old }
-    ensures grows { A.extent alg.old ≤ A.extent alg.new }
-    ensures earlier { (v : ℕ → Bool) → A.admits alg.new v → A.admits alg.old v }
-    ensures opaque { A.opaque alg.new ≡ A.opaque alg.old }
-    ensures made { IfOk result (λ r. r ≡ (highest_term A.ops 32 (A.held alg.old) x).word) }
-    ensures held { OnOk result (A.held alg.new ≡ (highest_term A.ops 32 (A.held alg.old) x).held) }
+    ensures later { IsLater A.Alg alg.old alg.new }
+    ensures makes { IfOk result (λ r. record { word = r; held = A.held alg.new } ≡ highest_term A.ops 32 (A.held alg.old) x) }
     ensures fails { OnErr result (IsTrue A.takes_memory) }
-    ensures owned { IfOk result (λ r. A.word_reach r ≤ A.extent alg.new) }
-    ensures means { IfOk result (λ r. (v : ℕ → Bool) → A.admits alg.new v → A.word r v ≡ (highest_term plain_operations 32 tt (A.word x v)).word) }
+    ensures gives { IfOk result (λ r. GivesWord A.Alg alg.new r (λ v. (highest_term plain_operations 32 tt (A.word x v)).word)) }
 {
     let mut highest = alg.lit(0);
     for place in 0u8..32 {
@@ -35,14 +32,10 @@ fn highest<A: Alg>(alg: &mut A, x: A::W) -> Result<A::W, NoMemory>
 /// The place of the highest 1; of 0, the free value.
 pub(crate) fn scan<A: Alg>(alg: &mut A, from: &HostIn<A>) -> Result<HostEffect<A>, NoMemory>
     requires owned { IsOwned A.word_reach A.flag_reach (A.extent alg.old) from.now }
-    ensures grows { A.extent alg.old ≤ A.extent alg.new }
-    ensures earlier { (v : ℕ → Bool) → A.admits alg.new v → A.admits alg.old v }
-    ensures opaque { A.opaque alg.new ≡ A.opaque alg.old }
-    ensures made { IfOk result (λ r. r ≡ (scan_term A.ops (A.held alg.old) from.now).effect) }
-    ensures held { OnOk result (A.held alg.new ≡ (scan_term A.ops (A.held alg.old) from.now).held) }
+    ensures later { IsLater A.Alg alg.old alg.new }
+    ensures makes { IfOk result (λ r. record { effect = r; held = A.held alg.new } ≡ scan_term A.ops (A.held alg.old) from.now) }
     ensures fails { OnErr result (IsTrue A.takes_memory) }
-    ensures owned { IfOk result (λ r. IsEffectOwned A.word_reach A.flag_reach (A.extent alg.new) r) }
-    ensures means { IfOk result (λ r. (v : ℕ → Bool) → A.admits alg.new v → effect_meant (λ w. A.word w v) (λ b. A.truth b v) r ≡ (scan_term plain_operations tt (meant (λ w. A.word w v) (λ b. A.truth b v) from.now)).effect) }
+    ensures gives { IfOk result (λ r. GivesEffect A.Alg alg.new r (λ v. (scan_term plain_operations tt (meant (λ w. A.word w v) (λ b. A.truth b v) from.now)).effect)) }
 {
     let highest = highest(alg, from.y)?;
     let zf = is_zero(alg, from.y)?;

@@ -1,8 +1,9 @@
 //! Shifts and rotates.
 
-ghost use Rattle.std.specs.Prelude.{◌≡◌, ◌≤◌, ◌<◌, ℕ, Bool, true, false, IfOk, OnOk, OnErr, IsTrue};
+ghost use Rattle.std.specs.Prelude.{◌≡◌, ◌≤◌, IfOk, OnErr, IsTrue};
+ghost use Rattle.word_kit.specs.Algebra.{IsLater};
 ghost use Rattle.word_kit.specs.PlainOperations.{plain_operations};
-ghost use Rattle.ia_alu.specs.Values.{IsOwned, IsEffectOwned, meant, effect_meant};
+ghost use Rattle.ia_alu.specs.Values.{IsOwned, meant, GivesEffect};
 ghost use Rattle.ia_alu.specs.Terms.{settled_term, turned_term, shift_term};
 
 use crate::moves::kept;
@@ -27,14 +28,10 @@ fn settled<A: Alg>(
     requires p_owned { A.flag_reach p ≤ A.extent alg.old }
     requires q_owned { A.flag_reach q ≤ A.extent alg.old }
     requires owned { IsOwned A.word_reach A.flag_reach (A.extent alg.old) from.now }
-    ensures grows { A.extent alg.old ≤ A.extent alg.new }
-    ensures earlier { (v : ℕ → Bool) → A.admits alg.new v → A.admits alg.old v }
-    ensures opaque { A.opaque alg.new ≡ A.opaque alg.old }
-    ensures made { IfOk result (λ r. r ≡ (settled_term A.ops (A.held alg.old) count value last p q from.now).effect) }
-    ensures held { OnOk result (A.held alg.new ≡ (settled_term A.ops (A.held alg.old) count value last p q from.now).held) }
+    ensures later { IsLater A.Alg alg.old alg.new }
+    ensures makes { IfOk result (λ r. record { effect = r; held = A.held alg.new } ≡ settled_term A.ops (A.held alg.old) count value last p q from.now) }
     ensures fails { OnErr result (IsTrue A.takes_memory) }
-    ensures owned { IfOk result (λ r. IsEffectOwned A.word_reach A.flag_reach (A.extent alg.new) r) }
-    ensures means { IfOk result (λ r. (v : ℕ → Bool) → A.admits alg.new v → effect_meant (λ w. A.word w v) (λ b. A.truth b v) r ≡ (settled_term plain_operations tt (A.word count v) (A.word value v) (A.truth last v) (A.truth p v) (A.truth q v) (meant (λ w. A.word w v) (λ b. A.truth b v) from.now)).effect) }
+    ensures gives { IfOk result (λ r. GivesEffect A.Alg alg.new r (λ v. (settled_term plain_operations tt (A.word count v) (A.word value v) (A.truth last v) (A.truth p v) (A.truth q v) (meant (λ w. A.word w v) (λ b. A.truth b v) from.now)).effect)) }
 {
     let none = is_count(alg, count, 0)?;
     let cf = choose(alg, none, from.cf, last)?;
@@ -68,14 +65,10 @@ fn turned<A: Alg>(
     requires p_owned { A.flag_reach p ≤ A.extent alg.old }
     requires q_owned { A.flag_reach q ≤ A.extent alg.old }
     requires owned { IsOwned A.word_reach A.flag_reach (A.extent alg.old) from.now }
-    ensures grows { A.extent alg.old ≤ A.extent alg.new }
-    ensures earlier { (v : ℕ → Bool) → A.admits alg.new v → A.admits alg.old v }
-    ensures opaque { A.opaque alg.new ≡ A.opaque alg.old }
-    ensures made { IfOk result (λ r. r ≡ (turned_term A.ops (A.held alg.old) count value last p q from.now).effect) }
-    ensures held { OnOk result (A.held alg.new ≡ (turned_term A.ops (A.held alg.old) count value last p q from.now).held) }
+    ensures later { IsLater A.Alg alg.old alg.new }
+    ensures makes { IfOk result (λ r. record { effect = r; held = A.held alg.new } ≡ turned_term A.ops (A.held alg.old) count value last p q from.now) }
     ensures fails { OnErr result (IsTrue A.takes_memory) }
-    ensures owned { IfOk result (λ r. IsEffectOwned A.word_reach A.flag_reach (A.extent alg.new) r) }
-    ensures means { IfOk result (λ r. (v : ℕ → Bool) → A.admits alg.new v → effect_meant (λ w. A.word w v) (λ b. A.truth b v) r ≡ (turned_term plain_operations tt (A.word count v) (A.word value v) (A.truth last v) (A.truth p v) (A.truth q v) (meant (λ w. A.word w v) (λ b. A.truth b v) from.now)).effect) }
+    ensures gives { IfOk result (λ r. GivesEffect A.Alg alg.new r (λ v. (turned_term plain_operations tt (A.word count v) (A.word value v) (A.truth last v) (A.truth p v) (A.truth q v) (meant (λ w. A.word w v) (λ b. A.truth b v) from.now)).effect)) }
 {
     let none = is_count(alg, count, 0)?;
     let cf = choose(alg, none, from.cf, last)?;
@@ -87,14 +80,10 @@ fn turned<A: Alg>(
 fn rol<A: Alg>(alg: &mut A, count: A::W, from: &HostIn<A>) -> Result<HostEffect<A>, NoMemory>
     requires count_owned { A.word_reach count ≤ A.extent alg.old }
     requires owned { IsOwned A.word_reach A.flag_reach (A.extent alg.old) from.now }
-    ensures grows { A.extent alg.old ≤ A.extent alg.new }
-    ensures earlier { (v : ℕ → Bool) → A.admits alg.new v → A.admits alg.old v }
-    ensures opaque { A.opaque alg.new ≡ A.opaque alg.old }
-    ensures made { IfOk result (λ r. r ≡ (shift_term A.ops ShiftOp.Rol (A.held alg.old) count from.now).effect) }
-    ensures held { OnOk result (A.held alg.new ≡ (shift_term A.ops ShiftOp.Rol (A.held alg.old) count from.now).held) }
+    ensures later { IsLater A.Alg alg.old alg.new }
+    ensures makes { IfOk result (λ r. record { effect = r; held = A.held alg.new } ≡ shift_term A.ops ShiftOp.Rol (A.held alg.old) count from.now) }
     ensures fails { OnErr result (IsTrue A.takes_memory) }
-    ensures owned { IfOk result (λ r. IsEffectOwned A.word_reach A.flag_reach (A.extent alg.new) r) }
-    ensures means { IfOk result (λ r. (v : ℕ → Bool) → A.admits alg.new v → effect_meant (λ w. A.word w v) (λ b. A.truth b v) r ≡ (shift_term plain_operations ShiftOp.Rol tt (A.word count v) (meant (λ w. A.word w v) (λ b. A.truth b v) from.now)).effect) }
+    ensures gives { IfOk result (λ r. GivesEffect A.Alg alg.new r (λ v. (shift_term plain_operations ShiftOp.Rol tt (A.word count v) (meant (λ w. A.word w v) (λ b. A.truth b v) from.now)).effect)) }
 {
     let result = alg.rotate(from.x, count)?;
     let low = alg.bit(result, 0);
@@ -105,14 +94,10 @@ fn rol<A: Alg>(alg: &mut A, count: A::W, from: &HostIn<A>) -> Result<HostEffect<
 fn ror<A: Alg>(alg: &mut A, count: A::W, from: &HostIn<A>) -> Result<HostEffect<A>, NoMemory>
     requires count_owned { A.word_reach count ≤ A.extent alg.old }
     requires owned { IsOwned A.word_reach A.flag_reach (A.extent alg.old) from.now }
-    ensures grows { A.extent alg.old ≤ A.extent alg.new }
-    ensures earlier { (v : ℕ → Bool) → A.admits alg.new v → A.admits alg.old v }
-    ensures opaque { A.opaque alg.new ≡ A.opaque alg.old }
-    ensures made { IfOk result (λ r. r ≡ (shift_term A.ops ShiftOp.Ror (A.held alg.old) count from.now).effect) }
-    ensures held { OnOk result (A.held alg.new ≡ (shift_term A.ops ShiftOp.Ror (A.held alg.old) count from.now).held) }
+    ensures later { IsLater A.Alg alg.old alg.new }
+    ensures makes { IfOk result (λ r. record { effect = r; held = A.held alg.new } ≡ shift_term A.ops ShiftOp.Ror (A.held alg.old) count from.now) }
     ensures fails { OnErr result (IsTrue A.takes_memory) }
-    ensures owned { IfOk result (λ r. IsEffectOwned A.word_reach A.flag_reach (A.extent alg.new) r) }
-    ensures means { IfOk result (λ r. (v : ℕ → Bool) → A.admits alg.new v → effect_meant (λ w. A.word w v) (λ b. A.truth b v) r ≡ (shift_term plain_operations ShiftOp.Ror tt (A.word count v) (meant (λ w. A.word w v) (λ b. A.truth b v) from.now)).effect) }
+    ensures gives { IfOk result (λ r. GivesEffect A.Alg alg.new r (λ v. (shift_term plain_operations ShiftOp.Ror tt (A.word count v) (meant (λ w. A.word w v) (λ b. A.truth b v) from.now)).effect)) }
 {
     let others = alg.not(count);
     let zero = alg.lit(0);
@@ -127,14 +112,10 @@ fn ror<A: Alg>(alg: &mut A, count: A::W, from: &HostIn<A>) -> Result<HostEffect<
 fn shl<A: Alg>(alg: &mut A, count: A::W, from: &HostIn<A>) -> Result<HostEffect<A>, NoMemory>
     requires count_owned { A.word_reach count ≤ A.extent alg.old }
     requires owned { IsOwned A.word_reach A.flag_reach (A.extent alg.old) from.now }
-    ensures grows { A.extent alg.old ≤ A.extent alg.new }
-    ensures earlier { (v : ℕ → Bool) → A.admits alg.new v → A.admits alg.old v }
-    ensures opaque { A.opaque alg.new ≡ A.opaque alg.old }
-    ensures made { IfOk result (λ r. r ≡ (shift_term A.ops ShiftOp.Shl (A.held alg.old) count from.now).effect) }
-    ensures held { OnOk result (A.held alg.new ≡ (shift_term A.ops ShiftOp.Shl (A.held alg.old) count from.now).held) }
+    ensures later { IsLater A.Alg alg.old alg.new }
+    ensures makes { IfOk result (λ r. record { effect = r; held = A.held alg.new } ≡ shift_term A.ops ShiftOp.Shl (A.held alg.old) count from.now) }
     ensures fails { OnErr result (IsTrue A.takes_memory) }
-    ensures owned { IfOk result (λ r. IsEffectOwned A.word_reach A.flag_reach (A.extent alg.new) r) }
-    ensures means { IfOk result (λ r. (v : ℕ → Bool) → A.admits alg.new v → effect_meant (λ w. A.word w v) (λ b. A.truth b v) r ≡ (shift_term plain_operations ShiftOp.Shl tt (A.word count v) (meant (λ w. A.word w v) (λ b. A.truth b v) from.now)).effect) }
+    ensures gives { IfOk result (λ r. GivesEffect A.Alg alg.new r (λ v. (shift_term plain_operations ShiftOp.Shl tt (A.word count v) (meant (λ w. A.word w v) (λ b. A.truth b v) from.now)).effect)) }
 {
     let result = alg.shift_left(from.x, count)?;
     let last = last_left(alg, from.x, count)?;
@@ -145,14 +126,10 @@ fn shl<A: Alg>(alg: &mut A, count: A::W, from: &HostIn<A>) -> Result<HostEffect<
 fn shr<A: Alg>(alg: &mut A, count: A::W, from: &HostIn<A>) -> Result<HostEffect<A>, NoMemory>
     requires count_owned { A.word_reach count ≤ A.extent alg.old }
     requires owned { IsOwned A.word_reach A.flag_reach (A.extent alg.old) from.now }
-    ensures grows { A.extent alg.old ≤ A.extent alg.new }
-    ensures earlier { (v : ℕ → Bool) → A.admits alg.new v → A.admits alg.old v }
-    ensures opaque { A.opaque alg.new ≡ A.opaque alg.old }
-    ensures made { IfOk result (λ r. r ≡ (shift_term A.ops ShiftOp.Shr (A.held alg.old) count from.now).effect) }
-    ensures held { OnOk result (A.held alg.new ≡ (shift_term A.ops ShiftOp.Shr (A.held alg.old) count from.now).held) }
+    ensures later { IsLater A.Alg alg.old alg.new }
+    ensures makes { IfOk result (λ r. record { effect = r; held = A.held alg.new } ≡ shift_term A.ops ShiftOp.Shr (A.held alg.old) count from.now) }
     ensures fails { OnErr result (IsTrue A.takes_memory) }
-    ensures owned { IfOk result (λ r. IsEffectOwned A.word_reach A.flag_reach (A.extent alg.new) r) }
-    ensures means { IfOk result (λ r. (v : ℕ → Bool) → A.admits alg.new v → effect_meant (λ w. A.word w v) (λ b. A.truth b v) r ≡ (shift_term plain_operations ShiftOp.Shr tt (A.word count v) (meant (λ w. A.word w v) (λ b. A.truth b v) from.now)).effect) }
+    ensures gives { IfOk result (λ r. GivesEffect A.Alg alg.new r (λ v. (shift_term plain_operations ShiftOp.Shr tt (A.word count v) (meant (λ w. A.word w v) (λ b. A.truth b v) from.now)).effect)) }
 {
     let result = alg.shift_right(from.x, count)?;
     let last = last_right(alg, from.x, count)?;
@@ -164,14 +141,10 @@ fn shr<A: Alg>(alg: &mut A, count: A::W, from: &HostIn<A>) -> Result<HostEffect<
 fn sar<A: Alg>(alg: &mut A, count: A::W, from: &HostIn<A>) -> Result<HostEffect<A>, NoMemory>
     requires count_owned { A.word_reach count ≤ A.extent alg.old }
     requires owned { IsOwned A.word_reach A.flag_reach (A.extent alg.old) from.now }
-    ensures grows { A.extent alg.old ≤ A.extent alg.new }
-    ensures earlier { (v : ℕ → Bool) → A.admits alg.new v → A.admits alg.old v }
-    ensures opaque { A.opaque alg.new ≡ A.opaque alg.old }
-    ensures made { IfOk result (λ r. r ≡ (shift_term A.ops ShiftOp.Sar (A.held alg.old) count from.now).effect) }
-    ensures held { OnOk result (A.held alg.new ≡ (shift_term A.ops ShiftOp.Sar (A.held alg.old) count from.now).held) }
+    ensures later { IsLater A.Alg alg.old alg.new }
+    ensures makes { IfOk result (λ r. record { effect = r; held = A.held alg.new } ≡ shift_term A.ops ShiftOp.Sar (A.held alg.old) count from.now) }
     ensures fails { OnErr result (IsTrue A.takes_memory) }
-    ensures owned { IfOk result (λ r. IsEffectOwned A.word_reach A.flag_reach (A.extent alg.new) r) }
-    ensures means { IfOk result (λ r. (v : ℕ → Bool) → A.admits alg.new v → effect_meant (λ w. A.word w v) (λ b. A.truth b v) r ≡ (shift_term plain_operations ShiftOp.Sar tt (A.word count v) (meant (λ w. A.word w v) (λ b. A.truth b v) from.now)).effect) }
+    ensures gives { IfOk result (λ r. GivesEffect A.Alg alg.new r (λ v. (shift_term plain_operations ShiftOp.Sar tt (A.word count v) (meant (λ w. A.word w v) (λ b. A.truth b v) from.now)).effect)) }
 {
     let result = alg.shift_arith(from.x, count)?;
     let last = last_right(alg, from.x, count)?;
@@ -188,14 +161,10 @@ pub(crate) fn shift<A: Alg>(
 ) -> Result<HostEffect<A>, NoMemory>
     requires count_owned { A.word_reach count ≤ A.extent alg.old }
     requires owned { IsOwned A.word_reach A.flag_reach (A.extent alg.old) from.now }
-    ensures grows { A.extent alg.old ≤ A.extent alg.new }
-    ensures earlier { (v : ℕ → Bool) → A.admits alg.new v → A.admits alg.old v }
-    ensures opaque { A.opaque alg.new ≡ A.opaque alg.old }
-    ensures made { IfOk result (λ r. r ≡ (shift_term A.ops op (A.held alg.old) count from.now).effect) }
-    ensures held { OnOk result (A.held alg.new ≡ (shift_term A.ops op (A.held alg.old) count from.now).held) }
+    ensures later { IsLater A.Alg alg.old alg.new }
+    ensures makes { IfOk result (λ r. record { effect = r; held = A.held alg.new } ≡ shift_term A.ops op (A.held alg.old) count from.now) }
     ensures fails { OnErr result (IsTrue A.takes_memory) }
-    ensures owned { IfOk result (λ r. IsEffectOwned A.word_reach A.flag_reach (A.extent alg.new) r) }
-    ensures means { IfOk result (λ r. (v : ℕ → Bool) → A.admits alg.new v → effect_meant (λ w. A.word w v) (λ b. A.truth b v) r ≡ (shift_term plain_operations op tt (A.word count v) (meant (λ w. A.word w v) (λ b. A.truth b v) from.now)).effect) }
+    ensures gives { IfOk result (λ r. GivesEffect A.Alg alg.new r (λ v. (shift_term plain_operations op tt (A.word count v) (meant (λ w. A.word w v) (λ b. A.truth b v) from.now)).effect)) }
 {
     match op {
         ShiftOp::Rol => rol(alg, count, from),

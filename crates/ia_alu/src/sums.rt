@@ -1,8 +1,9 @@
 //! Sums and differences: add, adc, sub, sbb, cmp, neg.
 
-ghost use Rattle.std.specs.Prelude.{◌≡◌, ◌≤◌, ◌<◌, ℕ, Bool, true, false, IfOk, OnOk, OnErr, IsTrue};
+ghost use Rattle.std.specs.Prelude.{◌≡◌, ◌≤◌, true, IfOk, OnErr, IsTrue};
+ghost use Rattle.word_kit.specs.Algebra.{IsLater};
 ghost use Rattle.word_kit.specs.PlainOperations.{plain_operations};
-ghost use Rattle.ia_alu.specs.Values.{IsOwned, IsEffectOwned, meant, effect_meant};
+ghost use Rattle.ia_alu.specs.Values.{IsOwned, meant, GivesEffect};
 ghost use Rattle.ia_alu.specs.Terms.{sum_term, difference_term, compare_term};
 
 use crate::moves::kept;
@@ -22,14 +23,10 @@ pub(crate) fn sum<A: Alg>(
     requires y_owned { A.word_reach y ≤ A.extent alg.old }
     requires carry_owned { A.flag_reach carry ≤ A.extent alg.old }
     requires owned { IsOwned A.word_reach A.flag_reach (A.extent alg.old) from.now }
-    ensures grows { A.extent alg.old ≤ A.extent alg.new }
-    ensures earlier { (v : ℕ → Bool) → A.admits alg.new v → A.admits alg.old v }
-    ensures opaque { A.opaque alg.new ≡ A.opaque alg.old }
-    ensures made { IfOk result (λ r. r ≡ (sum_term A.ops (A.held alg.old) x y carry from.now).effect) }
-    ensures held { OnOk result (A.held alg.new ≡ (sum_term A.ops (A.held alg.old) x y carry from.now).held) }
+    ensures later { IsLater A.Alg alg.old alg.new }
+    ensures makes { IfOk result (λ r. record { effect = r; held = A.held alg.new } ≡ sum_term A.ops (A.held alg.old) x y carry from.now) }
     ensures fails { OnErr result (IsTrue A.takes_memory) }
-    ensures owned { IfOk result (λ r. IsEffectOwned A.word_reach A.flag_reach (A.extent alg.new) r) }
-    ensures means { IfOk result (λ r. (v : ℕ → Bool) → A.admits alg.new v → effect_meant (λ w. A.word w v) (λ b. A.truth b v) r ≡ (sum_term plain_operations tt (A.word x v) (A.word y v) (A.truth carry v) (meant (λ w. A.word w v) (λ b. A.truth b v) from.now)).effect) }
+    ensures gives { IfOk result (λ r. GivesEffect A.Alg alg.new r (λ v. (sum_term plain_operations tt (A.word x v) (A.word y v) (A.truth carry v) (meant (λ w. A.word w v) (λ b. A.truth b v) from.now)).effect)) }
 {
     let (result, cf) = alg.add(x, y, carry)?;
     let zf = is_zero(alg, result)?;
@@ -57,14 +54,10 @@ pub(crate) fn difference<A: Alg>(
     requires y_owned { A.word_reach y ≤ A.extent alg.old }
     requires carry_owned { A.flag_reach carry ≤ A.extent alg.old }
     requires owned { IsOwned A.word_reach A.flag_reach (A.extent alg.old) from.now }
-    ensures grows { A.extent alg.old ≤ A.extent alg.new }
-    ensures earlier { (v : ℕ → Bool) → A.admits alg.new v → A.admits alg.old v }
-    ensures opaque { A.opaque alg.new ≡ A.opaque alg.old }
-    ensures made { IfOk result (λ r. r ≡ (difference_term A.ops (A.held alg.old) x y carry from.now).effect) }
-    ensures held { OnOk result (A.held alg.new ≡ (difference_term A.ops (A.held alg.old) x y carry from.now).held) }
+    ensures later { IsLater A.Alg alg.old alg.new }
+    ensures makes { IfOk result (λ r. record { effect = r; held = A.held alg.new } ≡ difference_term A.ops (A.held alg.old) x y carry from.now) }
     ensures fails { OnErr result (IsTrue A.takes_memory) }
-    ensures owned { IfOk result (λ r. IsEffectOwned A.word_reach A.flag_reach (A.extent alg.new) r) }
-    ensures means { IfOk result (λ r. (v : ℕ → Bool) → A.admits alg.new v → effect_meant (λ w. A.word w v) (λ b. A.truth b v) r ≡ (difference_term plain_operations tt (A.word x v) (A.word y v) (A.truth carry v) (meant (λ w. A.word w v) (λ b. A.truth b v) from.now)).effect) }
+    ensures gives { IfOk result (λ r. GivesEffect A.Alg alg.new r (λ v. (difference_term plain_operations tt (A.word x v) (A.word y v) (A.truth carry v) (meant (λ w. A.word w v) (λ b. A.truth b v) from.now)).effect)) }
 {
     let rest = alg.not(y);
     let sum = sum(alg, x, rest, carry, from)?;
@@ -75,14 +68,10 @@ pub(crate) fn difference<A: Alg>(
 /// The flags of a difference, without its result.
 pub(crate) fn compare<A: Alg>(alg: &mut A, from: &HostIn<A>) -> Result<HostEffect<A>, NoMemory>
     requires owned { IsOwned A.word_reach A.flag_reach (A.extent alg.old) from.now }
-    ensures grows { A.extent alg.old ≤ A.extent alg.new }
-    ensures earlier { (v : ℕ → Bool) → A.admits alg.new v → A.admits alg.old v }
-    ensures opaque { A.opaque alg.new ≡ A.opaque alg.old }
-    ensures made { IfOk result (λ r. r ≡ (compare_term A.ops (A.held alg.old) from.now).effect) }
-    ensures held { OnOk result (A.held alg.new ≡ (compare_term A.ops (A.held alg.old) from.now).held) }
+    ensures later { IsLater A.Alg alg.old alg.new }
+    ensures makes { IfOk result (λ r. record { effect = r; held = A.held alg.new } ≡ compare_term A.ops (A.held alg.old) from.now) }
     ensures fails { OnErr result (IsTrue A.takes_memory) }
-    ensures owned { IfOk result (λ r. IsEffectOwned A.word_reach A.flag_reach (A.extent alg.new) r) }
-    ensures means { IfOk result (λ r. (v : ℕ → Bool) → A.admits alg.new v → effect_meant (λ w. A.word w v) (λ b. A.truth b v) r ≡ (compare_term plain_operations tt (meant (λ w. A.word w v) (λ b. A.truth b v) from.now)).effect) }
+    ensures gives { IfOk result (λ r. GivesEffect A.Alg alg.new r (λ v. (compare_term plain_operations tt (meant (λ w. A.word w v) (λ b. A.truth b v) from.now)).effect)) }
 {
     let carry = alg.flag(true);
     let difference = difference(alg, from.x, from.y, carry, from)?;
@@ -95,14 +84,10 @@ pub(crate) fn compare<A: Alg>(alg: &mut A, from: &HostIn<A>) -> Result<HostEffec
 /// 0 less the operand.
 pub(crate) fn negative<A: Alg>(alg: &mut A, from: &HostIn<A>) -> Result<HostEffect<A>, NoMemory>
     requires owned { IsOwned A.word_reach A.flag_reach (A.extent alg.old) from.now }
-    ensures grows { A.extent alg.old ≤ A.extent alg.new }
-    ensures earlier { (v : ℕ → Bool) → A.admits alg.new v → A.admits alg.old v }
-    ensures opaque { A.opaque alg.new ≡ A.opaque alg.old }
-    ensures made { IfOk result (λ r. r ≡ (difference_term A.ops (A.held alg.old) (A.ops.lit_of 0) from.now.y (A.ops.flag_of true) from.now).effect) }
-    ensures held { OnOk result (A.held alg.new ≡ (difference_term A.ops (A.held alg.old) (A.ops.lit_of 0) from.now.y (A.ops.flag_of true) from.now).held) }
+    ensures later { IsLater A.Alg alg.old alg.new }
+    ensures makes { IfOk result (λ r. record { effect = r; held = A.held alg.new } ≡ difference_term A.ops (A.held alg.old) (A.ops.lit_of 0) from.now.y (A.ops.flag_of true) from.now) }
     ensures fails { OnErr result (IsTrue A.takes_memory) }
-    ensures owned { IfOk result (λ r. IsEffectOwned A.word_reach A.flag_reach (A.extent alg.new) r) }
-    ensures means { IfOk result (λ r. (v : ℕ → Bool) → A.admits alg.new v → effect_meant (λ w. A.word w v) (λ b. A.truth b v) r ≡ (difference_term plain_operations tt (plain_operations.lit_of 0) (A.word from.now.y v) (plain_operations.flag_of true) (meant (λ w. A.word w v) (λ b. A.truth b v) from.now)).effect) }
+    ensures gives { IfOk result (λ r. GivesEffect A.Alg alg.new r (λ v. (difference_term plain_operations tt (plain_operations.lit_of 0) (A.word from.now.y v) (plain_operations.flag_of true) (meant (λ w. A.word w v) (λ b. A.truth b v) from.now)).effect)) }
 {
     let zero = alg.lit(0);
     let carry = alg.flag(true);

@@ -1,9 +1,10 @@
 //! Extensions of signs.
 
-ghost use Rattle.std.specs.Prelude.{◌≡◌, ◌≤◌, ℕ, Bool, IfOk, OnOk, OnErr, IsTrue};
+ghost use Rattle.std.specs.Prelude.{◌≡◌, IfOk, OnErr, IsTrue};
+ghost use Rattle.word_kit.specs.Algebra.{IsLater};
 ghost use Rattle.ppc_isa.specs.AccessRows.{byte_extended, half_extended};
 ghost use Rattle.ppc_isa.specs.Recording.{gives_a};
-ghost use Rattle.ppc_parts.specs.Meanings.{IsOwned, EffectOwned, values_of, effect_of};
+ghost use Rattle.ppc_parts.specs.Meanings.{IsOwned, values_of, GivesEffect};
 ghost use Rattle.ppc_bits.specs.ShiftTerms.{exts_term};
 
 use ppc_parts::{Effect, GuestIn, extended_byte, extended_half, gives_a};
@@ -16,14 +17,10 @@ pub(crate) fn extsb<A: Alg>(
     from: &GuestIn<A>,
 ) -> Result<Effect<A>, NoMemory>
     requires owned { IsOwned A.word_reach (A.extent alg.old) from.now }
-    ensures grows { A.extent alg.old ≤ A.extent alg.new }
-    ensures earlier { (v : ℕ → Bool) → A.admits alg.new v → A.admits alg.old v }
-    ensures opaque { A.opaque alg.new ≡ A.opaque alg.old }
-    ensures made { IfOk result (λ r. r ≡ (exts_term A.ops 24 records (A.held alg.old) from.now).effect) }
-    ensures held { OnOk result (A.held alg.new ≡ (exts_term A.ops 24 records (A.held alg.old) from.now).held) }
+    ensures later { IsLater A.Alg alg.old alg.new }
+    ensures makes { IfOk result (λ r. record { effect = r; held = A.held alg.new } ≡ exts_term A.ops 24 records (A.held alg.old) from.now) }
     ensures fails { OnErr result (IsTrue A.takes_memory) }
-    ensures owned { IfOk result (λ r. EffectOwned A.word_reach A.flag_reach (A.extent alg.new) r) }
-    ensures means { IfOk result (λ r. (v : ℕ → Bool) → A.admits alg.new v → effect_of (λ w. A.word w v) (λ b. A.truth b v) r ≡ gives_a records (byte_extended (values_of (λ w. A.word w v) from.now).s) (values_of (λ w. A.word w v) from.now)) }
+    ensures gives { IfOk result (λ r. GivesEffect A.Alg alg.new r (λ v. gives_a records (byte_extended (values_of (λ w. A.word w v) from.now).s) (values_of (λ w. A.word w v) from.now))) }
 {
     let made = extended_byte(alg, from.s)?;
     gives_a(alg, records, made, from)
@@ -36,14 +33,10 @@ pub(crate) fn extsh<A: Alg>(
     from: &GuestIn<A>,
 ) -> Result<Effect<A>, NoMemory>
     requires owned { IsOwned A.word_reach (A.extent alg.old) from.now }
-    ensures grows { A.extent alg.old ≤ A.extent alg.new }
-    ensures earlier { (v : ℕ → Bool) → A.admits alg.new v → A.admits alg.old v }
-    ensures opaque { A.opaque alg.new ≡ A.opaque alg.old }
-    ensures made { IfOk result (λ r. r ≡ (exts_term A.ops 16 records (A.held alg.old) from.now).effect) }
-    ensures held { OnOk result (A.held alg.new ≡ (exts_term A.ops 16 records (A.held alg.old) from.now).held) }
+    ensures later { IsLater A.Alg alg.old alg.new }
+    ensures makes { IfOk result (λ r. record { effect = r; held = A.held alg.new } ≡ exts_term A.ops 16 records (A.held alg.old) from.now) }
     ensures fails { OnErr result (IsTrue A.takes_memory) }
-    ensures owned { IfOk result (λ r. EffectOwned A.word_reach A.flag_reach (A.extent alg.new) r) }
-    ensures means { IfOk result (λ r. (v : ℕ → Bool) → A.admits alg.new v → effect_of (λ w. A.word w v) (λ b. A.truth b v) r ≡ gives_a records (half_extended (values_of (λ w. A.word w v) from.now).s) (values_of (λ w. A.word w v) from.now)) }
+    ensures gives { IfOk result (λ r. GivesEffect A.Alg alg.new r (λ v. gives_a records (half_extended (values_of (λ w. A.word w v) from.now).s) (values_of (λ w. A.word w v) from.now))) }
 {
     let made = extended_half(alg, from.s)?;
     gives_a(alg, records, made, from)

@@ -1,10 +1,11 @@
 //! Logic, bit by bit.
 
-ghost use Rattle.std.specs.Prelude.{◌≡◌, ◌≤◌, ℕ, Bool, IfOk, OnOk, OnErr, IsTrue};
+ghost use Rattle.std.specs.Prelude.{◌≡◌, ◌≤◌, IfOk, OnErr, IsTrue};
+ghost use Rattle.word_kit.specs.Algebra.{IsLater};
 ghost use Rattle.word_kit.specs.Bits.{word_and, word_or, word_xor};
 ghost use Rattle.word_kit.specs.Words.{complement};
 ghost use Rattle.ppc_isa.specs.Recording.{gives_a};
-ghost use Rattle.ppc_parts.specs.Meanings.{IsOwned, EffectOwned, values_of, effect_of};
+ghost use Rattle.ppc_parts.specs.Meanings.{IsOwned, values_of, GivesEffect};
 ghost use Rattle.ppc_bits.specs.LogicTerms.{and_term, or_term, xor_term, nand_term, nor_term, eqv_term};
 
 use ppc_parts::{Effect, GuestIn, gives_a};
@@ -21,14 +22,10 @@ pub(crate) fn and_words<A: Alg>(
     requires x_owned { A.word_reach x ≤ A.extent alg.old }
     requires y_owned { A.word_reach y ≤ A.extent alg.old }
     requires owned { IsOwned A.word_reach (A.extent alg.old) from.now }
-    ensures grows { A.extent alg.old ≤ A.extent alg.new }
-    ensures earlier { (v : ℕ → Bool) → A.admits alg.new v → A.admits alg.old v }
-    ensures opaque { A.opaque alg.new ≡ A.opaque alg.old }
-    ensures made { IfOk result (λ r. r ≡ (and_term A.ops records x y (A.held alg.old) from.now).effect) }
-    ensures held { OnOk result (A.held alg.new ≡ (and_term A.ops records x y (A.held alg.old) from.now).held) }
+    ensures later { IsLater A.Alg alg.old alg.new }
+    ensures makes { IfOk result (λ r. record { effect = r; held = A.held alg.new } ≡ and_term A.ops records x y (A.held alg.old) from.now) }
     ensures fails { OnErr result (IsTrue A.takes_memory) }
-    ensures owned { IfOk result (λ r. EffectOwned A.word_reach A.flag_reach (A.extent alg.new) r) }
-    ensures means { IfOk result (λ r. (v : ℕ → Bool) → A.admits alg.new v → effect_of (λ w. A.word w v) (λ b. A.truth b v) r ≡ gives_a records (word_and (A.word x v) (A.word y v)) (values_of (λ w. A.word w v) from.now)) }
+    ensures gives { IfOk result (λ r. GivesEffect A.Alg alg.new r (λ v. gives_a records (word_and (A.word x v) (A.word y v)) (values_of (λ w. A.word w v) from.now))) }
 {
     let made = alg.and(x, y)?;
     gives_a(alg, records, made, from)
@@ -45,14 +42,10 @@ pub(crate) fn or_words<A: Alg>(
     requires x_owned { A.word_reach x ≤ A.extent alg.old }
     requires y_owned { A.word_reach y ≤ A.extent alg.old }
     requires owned { IsOwned A.word_reach (A.extent alg.old) from.now }
-    ensures grows { A.extent alg.old ≤ A.extent alg.new }
-    ensures earlier { (v : ℕ → Bool) → A.admits alg.new v → A.admits alg.old v }
-    ensures opaque { A.opaque alg.new ≡ A.opaque alg.old }
-    ensures made { IfOk result (λ r. r ≡ (or_term A.ops records x y (A.held alg.old) from.now).effect) }
-    ensures held { OnOk result (A.held alg.new ≡ (or_term A.ops records x y (A.held alg.old) from.now).held) }
+    ensures later { IsLater A.Alg alg.old alg.new }
+    ensures makes { IfOk result (λ r. record { effect = r; held = A.held alg.new } ≡ or_term A.ops records x y (A.held alg.old) from.now) }
     ensures fails { OnErr result (IsTrue A.takes_memory) }
-    ensures owned { IfOk result (λ r. EffectOwned A.word_reach A.flag_reach (A.extent alg.new) r) }
-    ensures means { IfOk result (λ r. (v : ℕ → Bool) → A.admits alg.new v → effect_of (λ w. A.word w v) (λ b. A.truth b v) r ≡ gives_a records (word_or (A.word x v) (A.word y v)) (values_of (λ w. A.word w v) from.now)) }
+    ensures gives { IfOk result (λ r. GivesEffect A.Alg alg.new r (λ v. gives_a records (word_or (A.word x v) (A.word y v)) (values_of (λ w. A.word w v) from.now))) }
 {
     let made = alg.or(x, y)?;
     gives_a(alg, records, made, from)
@@ -69,14 +62,10 @@ pub(crate) fn xor_words<A: Alg>(
     requires x_owned { A.word_reach x ≤ A.extent alg.old }
     requires y_owned { A.word_reach y ≤ A.extent alg.old }
     requires owned { IsOwned A.word_reach (A.extent alg.old) from.now }
-    ensures grows { A.extent alg.old ≤ A.extent alg.new }
-    ensures earlier { (v : ℕ → Bool) → A.admits alg.new v → A.admits alg.old v }
-    ensures opaque { A.opaque alg.new ≡ A.opaque alg.old }
-    ensures made { IfOk result (λ r. r ≡ (xor_term A.ops records x y (A.held alg.old) from.now).effect) }
-    ensures held { OnOk result (A.held alg.new ≡ (xor_term A.ops records x y (A.held alg.old) from.now).held) }
+    ensures later { IsLater A.Alg alg.old alg.new }
+    ensures makes { IfOk result (λ r. record { effect = r; held = A.held alg.new } ≡ xor_term A.ops records x y (A.held alg.old) from.now) }
     ensures fails { OnErr result (IsTrue A.takes_memory) }
-    ensures owned { IfOk result (λ r. EffectOwned A.word_reach A.flag_reach (A.extent alg.new) r) }
-    ensures means { IfOk result (λ r. (v : ℕ → Bool) → A.admits alg.new v → effect_of (λ w. A.word w v) (λ b. A.truth b v) r ≡ gives_a records (word_xor (A.word x v) (A.word y v)) (values_of (λ w. A.word w v) from.now)) }
+    ensures gives { IfOk result (λ r. GivesEffect A.Alg alg.new r (λ v. gives_a records (word_xor (A.word x v) (A.word y v)) (values_of (λ w. A.word w v) from.now))) }
 {
     let made = alg.xor(x, y)?;
     gives_a(alg, records, made, from)
@@ -89,14 +78,10 @@ pub(crate) fn nand<A: Alg>(
     from: &GuestIn<A>,
 ) -> Result<Effect<A>, NoMemory>
     requires owned { IsOwned A.word_reach (A.extent alg.old) from.now }
-    ensures grows { A.extent alg.old ≤ A.extent alg.new }
-    ensures earlier { (v : ℕ → Bool) → A.admits alg.new v → A.admits alg.old v }
-    ensures opaque { A.opaque alg.new ≡ A.opaque alg.old }
-    ensures made { IfOk result (λ r. r ≡ (nand_term A.ops records (A.held alg.old) from.now).effect) }
-    ensures held { OnOk result (A.held alg.new ≡ (nand_term A.ops records (A.held alg.old) from.now).held) }
+    ensures later { IsLater A.Alg alg.old alg.new }
+    ensures makes { IfOk result (λ r. record { effect = r; held = A.held alg.new } ≡ nand_term A.ops records (A.held alg.old) from.now) }
     ensures fails { OnErr result (IsTrue A.takes_memory) }
-    ensures owned { IfOk result (λ r. EffectOwned A.word_reach A.flag_reach (A.extent alg.new) r) }
-    ensures means { IfOk result (λ r. (v : ℕ → Bool) → A.admits alg.new v → effect_of (λ w. A.word w v) (λ b. A.truth b v) r ≡ gives_a records (complement (word_and (values_of (λ w. A.word w v) from.now).s (values_of (λ w. A.word w v) from.now).b)) (values_of (λ w. A.word w v) from.now)) }
+    ensures gives { IfOk result (λ r. GivesEffect A.Alg alg.new r (λ v. gives_a records (complement (word_and (values_of (λ w. A.word w v) from.now).s (values_of (λ w. A.word w v) from.now).b)) (values_of (λ w. A.word w v) from.now))) }
 {
     let made = alg.and(from.s, from.b)?;
     let complement = alg.not(made);
@@ -110,14 +95,10 @@ pub(crate) fn nor<A: Alg>(
     from: &GuestIn<A>,
 ) -> Result<Effect<A>, NoMemory>
     requires owned { IsOwned A.word_reach (A.extent alg.old) from.now }
-    ensures grows { A.extent alg.old ≤ A.extent alg.new }
-    ensures earlier { (v : ℕ → Bool) → A.admits alg.new v → A.admits alg.old v }
-    ensures opaque { A.opaque alg.new ≡ A.opaque alg.old }
-    ensures made { IfOk result (λ r. r ≡ (nor_term A.ops records (A.held alg.old) from.now).effect) }
-    ensures held { OnOk result (A.held alg.new ≡ (nor_term A.ops records (A.held alg.old) from.now).held) }
+    ensures later { IsLater A.Alg alg.old alg.new }
+    ensures makes { IfOk result (λ r. record { effect = r; held = A.held alg.new } ≡ nor_term A.ops records (A.held alg.old) from.now) }
     ensures fails { OnErr result (IsTrue A.takes_memory) }
-    ensures owned { IfOk result (λ r. EffectOwned A.word_reach A.flag_reach (A.extent alg.new) r) }
-    ensures means { IfOk result (λ r. (v : ℕ → Bool) → A.admits alg.new v → effect_of (λ w. A.word w v) (λ b. A.truth b v) r ≡ gives_a records (complement (word_or (values_of (λ w. A.word w v) from.now).s (values_of (λ w. A.word w v) from.now).b)) (values_of (λ w. A.word w v) from.now)) }
+    ensures gives { IfOk result (λ r. GivesEffect A.Alg alg.new r (λ v. gives_a records (complement (word_or (values_of (λ w. A.word w v) from.now).s (values_of (λ w. A.word w v) from.now).b)) (values_of (λ w. A.word w v) from.now))) }
 {
     let made = alg.or(from.s, from.b)?;
     let complement = alg.not(made);
@@ -131,14 +112,10 @@ pub(crate) fn eqv<A: Alg>(
     from: &GuestIn<A>,
 ) -> Result<Effect<A>, NoMemory>
     requires owned { IsOwned A.word_reach (A.extent alg.old) from.now }
-    ensures grows { A.extent alg.old ≤ A.extent alg.new }
-    ensures earlier { (v : ℕ → Bool) → A.admits alg.new v → A.admits alg.old v }
-    ensures opaque { A.opaque alg.new ≡ A.opaque alg.old }
-    ensures made { IfOk result (λ r. r ≡ (eqv_term A.ops records (A.held alg.old) from.now).effect) }
-    ensures held { OnOk result (A.held alg.new ≡ (eqv_term A.ops records (A.held alg.old) from.now).held) }
+    ensures later { IsLater A.Alg alg.old alg.new }
+    ensures makes { IfOk result (λ r. record { effect = r; held = A.held alg.new } ≡ eqv_term A.ops records (A.held alg.old) from.now) }
     ensures fails { OnErr result (IsTrue A.takes_memory) }
-    ensures owned { IfOk result (λ r. EffectOwned A.word_reach A.flag_reach (A.extent alg.new) r) }
-    ensures means { IfOk result (λ r. (v : ℕ → Bool) → A.admits alg.new v → effect_of (λ w. A.word w v) (λ b. A.truth b v) r ≡ gives_a records (complement (word_xor (values_of (λ w. A.word w v) from.now).s (values_of (λ w. A.word w v) from.now).b)) (values_of (λ w. A.word w v) from.now)) }
+    ensures gives { IfOk result (λ r. GivesEffect A.Alg alg.new r (λ v. gives_a records (complement (word_xor (values_of (λ w. A.word w v) from.now).s (values_of (λ w. A.word w v) from.now).b)) (values_of (λ w. A.word w v) from.now))) }
 {
     let made = alg.xor(from.s, from.b)?;
     let complement = alg.not(made);

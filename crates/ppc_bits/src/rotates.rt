@@ -1,11 +1,12 @@
 //! Rotates with a mask.
 
-ghost use Rattle.std.specs.Prelude.{◌≡◌, ◌<◌, ◌≤◌, ℕ, Bool, IfOk, OnOk, OnErr, IsTrue};
+ghost use Rattle.std.specs.Prelude.{◌≡◌, ◌<◌, ◌≤◌, IfOk, OnErr, IsTrue};
+ghost use Rattle.word_kit.specs.Algebra.{IsLater};
 ghost use Rattle.word_kit.specs.Bits.{word_and, rotated, mask, word_or};
 ghost use Rattle.word_kit.specs.Words.{complement};
 ghost use Rattle.ppc_isa.specs.Recording.{gives_a};
 ghost use Rattle.ppc_isa.specs.RotateRows.{rotate};
-ghost use Rattle.ppc_parts.specs.Meanings.{IsOwned, EffectOwned, values_of, effect_of};
+ghost use Rattle.ppc_parts.specs.Meanings.{IsOwned, values_of, GivesEffect};
 ghost use Rattle.ppc_bits.specs.ShiftTerms.{masked_term, inserted_term, rotate_term};
 
 use ppc_isa::RotateOp;
@@ -25,14 +26,10 @@ pub(crate) fn masked<A: Alg>(
     requires me_within { me < 32 }
     requires by_owned { A.word_reach by ≤ A.extent alg.old }
     requires owned { IsOwned A.word_reach (A.extent alg.old) from.now }
-    ensures grows { A.extent alg.old ≤ A.extent alg.new }
-    ensures earlier { (v : ℕ → Bool) → A.admits alg.new v → A.admits alg.old v }
-    ensures opaque { A.opaque alg.new ≡ A.opaque alg.old }
-    ensures made { IfOk result (λ r. r ≡ (masked_term A.ops by mb me records (A.held alg.old) from.now).effect) }
-    ensures held { OnOk result (A.held alg.new ≡ (masked_term A.ops by mb me records (A.held alg.old) from.now).held) }
+    ensures later { IsLater A.Alg alg.old alg.new }
+    ensures makes { IfOk result (λ r. record { effect = r; held = A.held alg.new } ≡ masked_term A.ops by mb me records (A.held alg.old) from.now) }
     ensures fails { OnErr result (IsTrue A.takes_memory) }
-    ensures owned { IfOk result (λ r. EffectOwned A.word_reach A.flag_reach (A.extent alg.new) r) }
-    ensures means { IfOk result (λ r. (v : ℕ → Bool) → A.admits alg.new v → effect_of (λ w. A.word w v) (λ b. A.truth b v) r ≡ gives_a records (word_and (rotated (values_of (λ w. A.word w v) from.now).s (A.word by v)) (mask mb me)) (values_of (λ w. A.word w v) from.now)) }
+    ensures gives { IfOk result (λ r. GivesEffect A.Alg alg.new r (λ v. gives_a records (word_and (rotated (values_of (λ w. A.word w v) from.now).s (A.word by v)) (mask mb me)) (values_of (λ w. A.word w v) from.now))) }
 {
     let turned = alg.rotate(from.s, by)?;
     let inside = alg.lit(mask_of(mb, me));
@@ -53,14 +50,10 @@ pub(crate) fn inserted<A: Alg>(
     requires me_within { me < 32 }
     requires by_owned { A.word_reach by ≤ A.extent alg.old }
     requires owned { IsOwned A.word_reach (A.extent alg.old) from.now }
-    ensures grows { A.extent alg.old ≤ A.extent alg.new }
-    ensures earlier { (v : ℕ → Bool) → A.admits alg.new v → A.admits alg.old v }
-    ensures opaque { A.opaque alg.new ≡ A.opaque alg.old }
-    ensures made { IfOk result (λ r. r ≡ (inserted_term A.ops by mb me records (A.held alg.old) from.now).effect) }
-    ensures held { OnOk result (A.held alg.new ≡ (inserted_term A.ops by mb me records (A.held alg.old) from.now).held) }
+    ensures later { IsLater A.Alg alg.old alg.new }
+    ensures makes { IfOk result (λ r. record { effect = r; held = A.held alg.new } ≡ inserted_term A.ops by mb me records (A.held alg.old) from.now) }
     ensures fails { OnErr result (IsTrue A.takes_memory) }
-    ensures owned { IfOk result (λ r. EffectOwned A.word_reach A.flag_reach (A.extent alg.new) r) }
-    ensures means { IfOk result (λ r. (v : ℕ → Bool) → A.admits alg.new v → effect_of (λ w. A.word w v) (λ b. A.truth b v) r ≡ gives_a records (word_or (word_and (rotated (values_of (λ w. A.word w v) from.now).s (A.word by v)) (mask mb me)) (word_and (values_of (λ w. A.word w v) from.now).a (complement (mask mb me)))) (values_of (λ w. A.word w v) from.now)) }
+    ensures gives { IfOk result (λ r. GivesEffect A.Alg alg.new r (λ v. gives_a records (word_or (word_and (rotated (values_of (λ w. A.word w v) from.now).s (A.word by v)) (mask mb me)) (word_and (values_of (λ w. A.word w v) from.now).a (complement (mask mb me)))) (values_of (λ w. A.word w v) from.now))) }
 {
     let ones = mask_of(mb, me);
     let turned = alg.rotate(from.s, by)?;
@@ -86,14 +79,10 @@ pub fn rotate<A: Alg>(
     requires mb_within { mb < 32 }
     requires me_within { me < 32 }
     requires owned { IsOwned A.word_reach (A.extent alg.old) from.now }
-    ensures grows { A.extent alg.old ≤ A.extent alg.new }
-    ensures earlier { (v : ℕ → Bool) → A.admits alg.new v → A.admits alg.old v }
-    ensures opaque { A.opaque alg.new ≡ A.opaque alg.old }
-    ensures made { IfOk result (λ r. r ≡ (rotate_term A.ops op by mb me records (A.held alg.old) from.now).effect) }
-    ensures held { OnOk result (A.held alg.new ≡ (rotate_term A.ops op by mb me records (A.held alg.old) from.now).held) }
+    ensures later { IsLater A.Alg alg.old alg.new }
+    ensures makes { IfOk result (λ r. record { effect = r; held = A.held alg.new } ≡ rotate_term A.ops op by mb me records (A.held alg.old) from.now) }
     ensures fails { OnErr result (IsTrue A.takes_memory) }
-    ensures owned { IfOk result (λ r. EffectOwned A.word_reach A.flag_reach (A.extent alg.new) r) }
-    ensures means { IfOk result (λ r. (v : ℕ → Bool) → A.admits alg.new v → effect_of (λ w. A.word w v) (λ b. A.truth b v) r ≡ gives_a records (rotate op by mb me (values_of (λ w. A.word w v) from.now)) (values_of (λ w. A.word w v) from.now)) }
+    ensures gives { IfOk result (λ r. GivesEffect A.Alg alg.new r (λ v. gives_a records (rotate op by mb me (values_of (λ w. A.word w v) from.now)) (values_of (λ w. A.word w v) from.now))) }
 {
     let count = alg.lit(by as u32);
     match op {

@@ -1,11 +1,12 @@
 //! Logic by its ops.
 
-ghost use Rattle.std.specs.Prelude.{◌≡◌, ◌≤◌, ℕ, Bool, IfOk, OnOk, OnErr, IsTrue};
+ghost use Rattle.std.specs.Prelude.{◌≡◌, IfOk, OnErr, IsTrue};
+ghost use Rattle.word_kit.specs.Algebra.{IsLater};
 ghost use Rattle.ppc_isa.specs.Locations.{logic_immediate_records};
 ghost use Rattle.ppc_isa.specs.LogicRows.{logic_immediate};
 ghost use Rattle.ppc_isa.specs.Recording.{gives_a};
 ghost use Rattle.ppc_isa.specs.Rows.{logic_row, logic_unary_row};
-ghost use Rattle.ppc_parts.specs.Meanings.{IsOwned, EffectOwned, values_of, effect_of};
+ghost use Rattle.ppc_parts.specs.Meanings.{IsOwned, values_of, GivesEffect};
 ghost use Rattle.ppc_bits.specs.LogicTerms.{logic_immediate_term, logic_term};
 ghost use Rattle.ppc_bits.specs.ShiftTerms.{logic_unary_term};
 
@@ -25,14 +26,10 @@ pub fn logic_immediate_row<A: Alg>(
     from: &GuestIn<A>,
 ) -> Result<Effect<A>, NoMemory>
     requires owned { IsOwned A.word_reach (A.extent alg.old) from.now }
-    ensures grows { A.extent alg.old ≤ A.extent alg.new }
-    ensures earlier { (v : ℕ → Bool) → A.admits alg.new v → A.admits alg.old v }
-    ensures opaque { A.opaque alg.new ≡ A.opaque alg.old }
-    ensures made { IfOk result (λ r. r ≡ (logic_immediate_term A.ops op (A.held alg.old) from.now).effect) }
-    ensures held { OnOk result (A.held alg.new ≡ (logic_immediate_term A.ops op (A.held alg.old) from.now).held) }
+    ensures later { IsLater A.Alg alg.old alg.new }
+    ensures makes { IfOk result (λ r. record { effect = r; held = A.held alg.new } ≡ logic_immediate_term A.ops op (A.held alg.old) from.now) }
     ensures fails { OnErr result (IsTrue A.takes_memory) }
-    ensures owned { IfOk result (λ r. EffectOwned A.word_reach A.flag_reach (A.extent alg.new) r) }
-    ensures means { IfOk result (λ r. (v : ℕ → Bool) → A.admits alg.new v → effect_of (λ w. A.word w v) (λ b. A.truth b v) r ≡ gives_a (logic_immediate_records op) (logic_immediate op (values_of (λ w. A.word w v) from.now).s (values_of (λ w. A.word w v) from.now).b) (values_of (λ w. A.word w v) from.now)) }
+    ensures gives { IfOk result (λ r. GivesEffect A.Alg alg.new r (λ v. gives_a (logic_immediate_records op) (logic_immediate op (values_of (λ w. A.word w v) from.now).s (values_of (λ w. A.word w v) from.now).b) (values_of (λ w. A.word w v) from.now))) }
 {
     match op {
         LogicImmediateOp::Ori | LogicImmediateOp::Oris => or_words(
@@ -56,14 +53,10 @@ pub fn logic_row<A: Alg>(
     from: &GuestIn<A>,
 ) -> Result<Effect<A>, NoMemory>
     requires owned { IsOwned A.word_reach (A.extent alg.old) from.now }
-    ensures grows { A.extent alg.old ≤ A.extent alg.new }
-    ensures earlier { (v : ℕ → Bool) → A.admits alg.new v → A.admits alg.old v }
-    ensures opaque { A.opaque alg.new ≡ A.opaque alg.old }
-    ensures made { IfOk result (λ r. r ≡ (logic_term A.ops op records (A.held alg.old) from.now).effect) }
-    ensures held { OnOk result (A.held alg.new ≡ (logic_term A.ops op records (A.held alg.old) from.now).held) }
+    ensures later { IsLater A.Alg alg.old alg.new }
+    ensures makes { IfOk result (λ r. record { effect = r; held = A.held alg.new } ≡ logic_term A.ops op records (A.held alg.old) from.now) }
     ensures fails { OnErr result (IsTrue A.takes_memory) }
-    ensures owned { IfOk result (λ r. EffectOwned A.word_reach A.flag_reach (A.extent alg.new) r) }
-    ensures means { IfOk result (λ r. (v : ℕ → Bool) → A.admits alg.new v → effect_of (λ w. A.word w v) (λ b. A.truth b v) r ≡ logic_row op records (values_of (λ w. A.word w v) from.now)) }
+    ensures gives { IfOk result (λ r. GivesEffect A.Alg alg.new r (λ v. logic_row op records (values_of (λ w. A.word w v) from.now))) }
 {
     let not_b = alg.not(from.b);
     match op {
@@ -89,14 +82,10 @@ pub fn logic_unary_row<A: Alg>(
     from: &GuestIn<A>,
 ) -> Result<Effect<A>, NoMemory>
     requires owned { IsOwned A.word_reach (A.extent alg.old) from.now }
-    ensures grows { A.extent alg.old ≤ A.extent alg.new }
-    ensures earlier { (v : ℕ → Bool) → A.admits alg.new v → A.admits alg.old v }
-    ensures opaque { A.opaque alg.new ≡ A.opaque alg.old }
-    ensures made { IfOk result (λ r. r ≡ (logic_unary_term A.ops op records (A.held alg.old) from.now).effect) }
-    ensures held { OnOk result (A.held alg.new ≡ (logic_unary_term A.ops op records (A.held alg.old) from.now).held) }
+    ensures later { IsLater A.Alg alg.old alg.new }
+    ensures makes { IfOk result (λ r. record { effect = r; held = A.held alg.new } ≡ logic_unary_term A.ops op records (A.held alg.old) from.now) }
     ensures fails { OnErr result (IsTrue A.takes_memory) }
-    ensures owned { IfOk result (λ r. EffectOwned A.word_reach A.flag_reach (A.extent alg.new) r) }
-    ensures means { IfOk result (λ r. (v : ℕ → Bool) → A.admits alg.new v → effect_of (λ w. A.word w v) (λ b. A.truth b v) r ≡ logic_unary_row op records (values_of (λ w. A.word w v) from.now)) }
+    ensures gives { IfOk result (λ r. GivesEffect A.Alg alg.new r (λ v. logic_unary_row op records (values_of (λ w. A.word w v) from.now))) }
 {
     match op {
         LogicUnaryOp::Cntlzw => cntlzw(alg, records, from),

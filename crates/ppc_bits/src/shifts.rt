@@ -1,10 +1,11 @@
 //! Shifts.
 
-ghost use Rattle.std.specs.Prelude.{◌≡◌, ◌≤◌, ◌%◌, ℕ, Bool, IfOk, OnOk, OnErr, IsTrue, not, ◌&&◌, eqb, ◌<◌};
+ghost use Rattle.std.specs.Prelude.{◌≡◌, ◌≤◌, ◌%◌, IfOk, OnErr, IsTrue, not, ◌&&◌, eqb, ◌<◌};
+ghost use Rattle.word_kit.specs.Algebra.{IsLater, GivesWord, GivesFlag};
 ghost use Rattle.word_kit.specs.Words.{is_negative};
 ghost use Rattle.ppc_isa.specs.Recording.{gives_a};
 ghost use Rattle.ppc_isa.specs.ShiftRows.{left_by, right_by, arith_by, shifted_algebraic};
-ghost use Rattle.ppc_parts.specs.Meanings.{IsOwned, EffectOwned, values_of, effect_of};
+ghost use Rattle.ppc_parts.specs.Meanings.{IsOwned, values_of, GivesEffect};
 ghost use Rattle.ppc_bits.specs.Meant.{algebraic};
 ghost use Rattle.ppc_bits.specs.ShiftTerms.{left_term, right_term, arith_term, slw_term, srw_term, lost_term, algebraic_term, srawi_term, sraw_term};
 
@@ -16,14 +17,10 @@ use word_kit::{Alg, NoMemory};
 pub(crate) fn left<A: Alg>(alg: &mut A, x: A::W, by: A::W) -> Result<A::W, NoMemory>
     requires x_owned { A.word_reach x ≤ A.extent alg.old }
     requires by_owned { A.word_reach by ≤ A.extent alg.old }
-    ensures grows { A.extent alg.old ≤ A.extent alg.new }
-    ensures earlier { (v : ℕ → Bool) → A.admits alg.new v → A.admits alg.old v }
-    ensures opaque { A.opaque alg.new ≡ A.opaque alg.old }
-    ensures made { IfOk result (λ r. r ≡ (left_term A.ops x by (A.held alg.old)).word) }
-    ensures held { OnOk result (A.held alg.new ≡ (left_term A.ops x by (A.held alg.old)).held) }
+    ensures later { IsLater A.Alg alg.old alg.new }
+    ensures makes { IfOk result (λ r. record { word = r; held = A.held alg.new } ≡ left_term A.ops x by (A.held alg.old)) }
     ensures fails { OnErr result (IsTrue A.takes_memory) }
-    ensures owned { IfOk result (λ r. A.word_reach r ≤ A.extent alg.new) }
-    ensures means { IfOk result (λ r. (v : ℕ → Bool) → A.admits alg.new v → A.word r v ≡ left_by (A.word x v) ((A.word by v) % 64)) }
+    ensures gives { IfOk result (λ r. GivesWord A.Alg alg.new r (λ v. left_by (A.word x v) ((A.word by v) % 64))) }
 {
     let near = alg.shift_left(x, by)?;
     let far = alg.bit(by, 5);
@@ -37,14 +34,10 @@ pub(crate) fn left<A: Alg>(alg: &mut A, x: A::W, by: A::W) -> Result<A::W, NoMem
 pub(crate) fn right<A: Alg>(alg: &mut A, x: A::W, by: A::W) -> Result<A::W, NoMemory>
     requires x_owned { A.word_reach x ≤ A.extent alg.old }
     requires by_owned { A.word_reach by ≤ A.extent alg.old }
-    ensures grows { A.extent alg.old ≤ A.extent alg.new }
-    ensures earlier { (v : ℕ → Bool) → A.admits alg.new v → A.admits alg.old v }
-    ensures opaque { A.opaque alg.new ≡ A.opaque alg.old }
-    ensures made { IfOk result (λ r. r ≡ (right_term A.ops x by (A.held alg.old)).word) }
-    ensures held { OnOk result (A.held alg.new ≡ (right_term A.ops x by (A.held alg.old)).held) }
+    ensures later { IsLater A.Alg alg.old alg.new }
+    ensures makes { IfOk result (λ r. record { word = r; held = A.held alg.new } ≡ right_term A.ops x by (A.held alg.old)) }
     ensures fails { OnErr result (IsTrue A.takes_memory) }
-    ensures owned { IfOk result (λ r. A.word_reach r ≤ A.extent alg.new) }
-    ensures means { IfOk result (λ r. (v : ℕ → Bool) → A.admits alg.new v → A.word r v ≡ right_by (A.word x v) ((A.word by v) % 64)) }
+    ensures gives { IfOk result (λ r. GivesWord A.Alg alg.new r (λ v. right_by (A.word x v) ((A.word by v) % 64))) }
 {
     let near = alg.shift_right(x, by)?;
     let far = alg.bit(by, 5);
@@ -58,14 +51,10 @@ pub(crate) fn right<A: Alg>(alg: &mut A, x: A::W, by: A::W) -> Result<A::W, NoMe
 pub(crate) fn arith<A: Alg>(alg: &mut A, x: A::W, by: A::W) -> Result<A::W, NoMemory>
     requires x_owned { A.word_reach x ≤ A.extent alg.old }
     requires by_owned { A.word_reach by ≤ A.extent alg.old }
-    ensures grows { A.extent alg.old ≤ A.extent alg.new }
-    ensures earlier { (v : ℕ → Bool) → A.admits alg.new v → A.admits alg.old v }
-    ensures opaque { A.opaque alg.new ≡ A.opaque alg.old }
-    ensures made { IfOk result (λ r. r ≡ (arith_term A.ops x by (A.held alg.old)).word) }
-    ensures held { OnOk result (A.held alg.new ≡ (arith_term A.ops x by (A.held alg.old)).held) }
+    ensures later { IsLater A.Alg alg.old alg.new }
+    ensures makes { IfOk result (λ r. record { word = r; held = A.held alg.new } ≡ arith_term A.ops x by (A.held alg.old)) }
     ensures fails { OnErr result (IsTrue A.takes_memory) }
-    ensures owned { IfOk result (λ r. A.word_reach r ≤ A.extent alg.new) }
-    ensures means { IfOk result (λ r. (v : ℕ → Bool) → A.admits alg.new v → A.word r v ≡ arith_by (A.word x v) ((A.word by v) % 64)) }
+    ensures gives { IfOk result (λ r. GivesWord A.Alg alg.new r (λ v. arith_by (A.word x v) ((A.word by v) % 64))) }
 {
     let near = alg.shift_arith(x, by)?;
     let far = alg.bit(by, 5);
@@ -82,14 +71,10 @@ pub(crate) fn slw<A: Alg>(
     from: &GuestIn<A>,
 ) -> Result<Effect<A>, NoMemory>
     requires owned { IsOwned A.word_reach (A.extent alg.old) from.now }
-    ensures grows { A.extent alg.old ≤ A.extent alg.new }
-    ensures earlier { (v : ℕ → Bool) → A.admits alg.new v → A.admits alg.old v }
-    ensures opaque { A.opaque alg.new ≡ A.opaque alg.old }
-    ensures made { IfOk result (λ r. r ≡ (slw_term A.ops records (A.held alg.old) from.now).effect) }
-    ensures held { OnOk result (A.held alg.new ≡ (slw_term A.ops records (A.held alg.old) from.now).held) }
+    ensures later { IsLater A.Alg alg.old alg.new }
+    ensures makes { IfOk result (λ r. record { effect = r; held = A.held alg.new } ≡ slw_term A.ops records (A.held alg.old) from.now) }
     ensures fails { OnErr result (IsTrue A.takes_memory) }
-    ensures owned { IfOk result (λ r. EffectOwned A.word_reach A.flag_reach (A.extent alg.new) r) }
-    ensures means { IfOk result (λ r. (v : ℕ → Bool) → A.admits alg.new v → effect_of (λ w. A.word w v) (λ b. A.truth b v) r ≡ gives_a records (left_by (values_of (λ w. A.word w v) from.now).s ((values_of (λ w. A.word w v) from.now).b % 64)) (values_of (λ w. A.word w v) from.now)) }
+    ensures gives { IfOk result (λ r. GivesEffect A.Alg alg.new r (λ v. gives_a records (left_by (values_of (λ w. A.word w v) from.now).s ((values_of (λ w. A.word w v) from.now).b % 64)) (values_of (λ w. A.word w v) from.now))) }
 {
     let made = left(alg, from.s, from.b)?;
     gives_a(alg, records, made, from)
@@ -102,14 +87,10 @@ pub(crate) fn srw<A: Alg>(
     from: &GuestIn<A>,
 ) -> Result<Effect<A>, NoMemory>
     requires owned { IsOwned A.word_reach (A.extent alg.old) from.now }
-    ensures grows { A.extent alg.old ≤ A.extent alg.new }
-    ensures earlier { (v : ℕ → Bool) → A.admits alg.new v → A.admits alg.old v }
-    ensures opaque { A.opaque alg.new ≡ A.opaque alg.old }
-    ensures made { IfOk result (λ r. r ≡ (srw_term A.ops records (A.held alg.old) from.now).effect) }
-    ensures held { OnOk result (A.held alg.new ≡ (srw_term A.ops records (A.held alg.old) from.now).held) }
+    ensures later { IsLater A.Alg alg.old alg.new }
+    ensures makes { IfOk result (λ r. record { effect = r; held = A.held alg.new } ≡ srw_term A.ops records (A.held alg.old) from.now) }
     ensures fails { OnErr result (IsTrue A.takes_memory) }
-    ensures owned { IfOk result (λ r. EffectOwned A.word_reach A.flag_reach (A.extent alg.new) r) }
-    ensures means { IfOk result (λ r. (v : ℕ → Bool) → A.admits alg.new v → effect_of (λ w. A.word w v) (λ b. A.truth b v) r ≡ gives_a records (right_by (values_of (λ w. A.word w v) from.now).s ((values_of (λ w. A.word w v) from.now).b % 64)) (values_of (λ w. A.word w v) from.now)) }
+    ensures gives { IfOk result (λ r. GivesEffect A.Alg alg.new r (λ v. gives_a records (right_by (values_of (λ w. A.word w v) from.now).s ((values_of (λ w. A.word w v) from.now).b % 64)) (values_of (λ w. A.word w v) from.now))) }
 {
     let made = right(alg, from.s, from.b)?;
     gives_a(alg, records, made, from)
@@ -120,14 +101,10 @@ pub(crate) fn srw<A: Alg>(
 pub(crate) fn lost<A: Alg>(alg: &mut A, s: A::W, kept: A::W) -> Result<A::B, NoMemory>
     requires s_owned { A.word_reach s ≤ A.extent alg.old }
     requires kept_owned { A.word_reach kept ≤ A.extent alg.old }
-    ensures grows { A.extent alg.old ≤ A.extent alg.new }
-    ensures earlier { (v : ℕ → Bool) → A.admits alg.new v → A.admits alg.old v }
-    ensures opaque { A.opaque alg.new ≡ A.opaque alg.old }
-    ensures made { IfOk result (λ r. r ≡ (lost_term A.ops s kept (A.held alg.old)).flag) }
-    ensures held { OnOk result (A.held alg.new ≡ (lost_term A.ops s kept (A.held alg.old)).held) }
+    ensures later { IsLater A.Alg alg.old alg.new }
+    ensures makes { IfOk result (λ r. record { flag = r; held = A.held alg.new } ≡ lost_term A.ops s kept (A.held alg.old)) }
     ensures fails { OnErr result (IsTrue A.takes_memory) }
-    ensures owned { IfOk result (λ r. A.flag_reach r ≤ A.extent alg.new) }
-    ensures means { IfOk result (λ r. (v : ℕ → Bool) → A.admits alg.new v → A.truth r v ≡ is_negative (A.word s v) && not (eqb (A.word kept v) (A.word s v))) }
+    ensures gives { IfOk result (λ r. GivesFlag A.Alg alg.new r (λ v. is_negative (A.word s v) && not (eqb (A.word kept v) (A.word s v)))) }
 {
     let same = alg.equal(kept, s)?;
     let sign = alg.bit(s, 31);
@@ -146,14 +123,10 @@ pub(crate) fn algebraic<A: Alg>(
     requires shifted_owned { A.word_reach shifted ≤ A.extent alg.old }
     requires kept_owned { A.word_reach kept ≤ A.extent alg.old }
     requires owned { IsOwned A.word_reach (A.extent alg.old) from.now }
-    ensures grows { A.extent alg.old ≤ A.extent alg.new }
-    ensures earlier { (v : ℕ → Bool) → A.admits alg.new v → A.admits alg.old v }
-    ensures opaque { A.opaque alg.new ≡ A.opaque alg.old }
-    ensures made { IfOk result (λ r. r ≡ (algebraic_term A.ops records shifted kept (A.held alg.old) from.now).effect) }
-    ensures held { OnOk result (A.held alg.new ≡ (algebraic_term A.ops records shifted kept (A.held alg.old) from.now).held) }
+    ensures later { IsLater A.Alg alg.old alg.new }
+    ensures makes { IfOk result (λ r. record { effect = r; held = A.held alg.new } ≡ algebraic_term A.ops records shifted kept (A.held alg.old) from.now) }
     ensures fails { OnErr result (IsTrue A.takes_memory) }
-    ensures owned { IfOk result (λ r. EffectOwned A.word_reach A.flag_reach (A.extent alg.new) r) }
-    ensures means { IfOk result (λ r. (v : ℕ → Bool) → A.admits alg.new v → effect_of (λ w. A.word w v) (λ b. A.truth b v) r ≡ algebraic records (A.word shifted v) (A.word kept v) (values_of (λ w. A.word w v) from.now)) }
+    ensures gives { IfOk result (λ r. GivesEffect A.Alg alg.new r (λ v. algebraic records (A.word shifted v) (A.word kept v) (values_of (λ w. A.word w v) from.now))) }
 {
     let carry = lost(alg, from.s, kept)?;
     let xer = alg.put_bit(from.xer, 29, carry);
@@ -171,14 +144,10 @@ pub fn srawi<A: Alg>(
 ) -> Result<Effect<A>, NoMemory>
     requires within { by < 32 }
     requires owned { IsOwned A.word_reach (A.extent alg.old) from.now }
-    ensures grows { A.extent alg.old ≤ A.extent alg.new }
-    ensures earlier { (v : ℕ → Bool) → A.admits alg.new v → A.admits alg.old v }
-    ensures opaque { A.opaque alg.new ≡ A.opaque alg.old }
-    ensures made { IfOk result (λ r. r ≡ (srawi_term A.ops by records (A.held alg.old) from.now).effect) }
-    ensures held { OnOk result (A.held alg.new ≡ (srawi_term A.ops by records (A.held alg.old) from.now).held) }
+    ensures later { IsLater A.Alg alg.old alg.new }
+    ensures makes { IfOk result (λ r. record { effect = r; held = A.held alg.new } ≡ srawi_term A.ops by records (A.held alg.old) from.now) }
     ensures fails { OnErr result (IsTrue A.takes_memory) }
-    ensures owned { IfOk result (λ r. EffectOwned A.word_reach A.flag_reach (A.extent alg.new) r) }
-    ensures means { IfOk result (λ r. (v : ℕ → Bool) → A.admits alg.new v → effect_of (λ w. A.word w v) (λ b. A.truth b v) r ≡ shifted_algebraic records by (values_of (λ w. A.word w v) from.now)) }
+    ensures gives { IfOk result (λ r. GivesEffect A.Alg alg.new r (λ v. shifted_algebraic records by (values_of (λ w. A.word w v) from.now))) }
 {
     let count = alg.lit(by as u32);
     let shifted = alg.shift_arith(from.s, count)?;
@@ -193,14 +162,10 @@ pub(crate) fn sraw<A: Alg>(
     from: &GuestIn<A>,
 ) -> Result<Effect<A>, NoMemory>
     requires owned { IsOwned A.word_reach (A.extent alg.old) from.now }
-    ensures grows { A.extent alg.old ≤ A.extent alg.new }
-    ensures earlier { (v : ℕ → Bool) → A.admits alg.new v → A.admits alg.old v }
-    ensures opaque { A.opaque alg.new ≡ A.opaque alg.old }
-    ensures made { IfOk result (λ r. r ≡ (sraw_term A.ops records (A.held alg.old) from.now).effect) }
-    ensures held { OnOk result (A.held alg.new ≡ (sraw_term A.ops records (A.held alg.old) from.now).held) }
+    ensures later { IsLater A.Alg alg.old alg.new }
+    ensures makes { IfOk result (λ r. record { effect = r; held = A.held alg.new } ≡ sraw_term A.ops records (A.held alg.old) from.now) }
     ensures fails { OnErr result (IsTrue A.takes_memory) }
-    ensures owned { IfOk result (λ r. EffectOwned A.word_reach A.flag_reach (A.extent alg.new) r) }
-    ensures means { IfOk result (λ r. (v : ℕ → Bool) → A.admits alg.new v → effect_of (λ w. A.word w v) (λ b. A.truth b v) r ≡ shifted_algebraic records ((values_of (λ w. A.word w v) from.now).b % 64) (values_of (λ w. A.word w v) from.now)) }
+    ensures gives { IfOk result (λ r. GivesEffect A.Alg alg.new r (λ v. shifted_algebraic records ((values_of (λ w. A.word w v) from.now).b % 64) (values_of (λ w. A.word w v) from.now))) }
 {
     let shifted = arith(alg, from.s, from.b)?;
     let kept = left(alg, shifted, from.b)?;

@@ -1,10 +1,11 @@
 //! Differences, as sums with a complement.
 
-ghost use Rattle.std.specs.Prelude.{true, ◌≡◌, ◌≤◌, ℕ, Bool, IfOk, OnOk, OnErr, IsTrue};
+ghost use Rattle.std.specs.Prelude.{true, ◌≡◌, IfOk, OnErr, IsTrue};
+ghost use Rattle.word_kit.specs.Algebra.{IsLater};
 ghost use Rattle.word_kit.specs.Words.{complement};
 ghost use Rattle.ppc_isa.specs.Recording.{ca};
 ghost use Rattle.ppc_isa.specs.SumRows.{sum_with, sum_carrying};
-ghost use Rattle.ppc_parts.specs.Meanings.{IsOwned, EffectOwned, values_of, effect_of};
+ghost use Rattle.ppc_parts.specs.Meanings.{IsOwned, values_of, GivesEffect};
 ghost use Rattle.ppc_sums.specs.SumTerms.{sum_term, sum_carrying_term, ca_term};
 
 use crate::sums::{carry_in, sum, sum_carrying};
@@ -18,14 +19,10 @@ pub(crate) fn subtract<A: Alg>(
     from: &GuestIn<A>,
 ) -> Result<Effect<A>, NoMemory>
     requires owned { IsOwned A.word_reach (A.extent alg.old) from.now }
-    ensures grows { A.extent alg.old ≤ A.extent alg.new }
-    ensures earlier { (v : ℕ → Bool) → A.admits alg.new v → A.admits alg.old v }
-    ensures opaque { A.opaque alg.new ≡ A.opaque alg.old }
-    ensures made { IfOk result (λ r. r ≡ (sum_term A.ops records (A.ops.not_of from.now.a) from.now.b (A.ops.flag_of true) (A.held alg.old) from.now).effect) }
-    ensures held { OnOk result (A.held alg.new ≡ (sum_term A.ops records (A.ops.not_of from.now.a) from.now.b (A.ops.flag_of true) (A.held alg.old) from.now).held) }
+    ensures later { IsLater A.Alg alg.old alg.new }
+    ensures makes { IfOk result (λ r. record { effect = r; held = A.held alg.new } ≡ sum_term A.ops records (A.ops.not_of from.now.a) from.now.b (A.ops.flag_of true) (A.held alg.old) from.now) }
     ensures fails { OnErr result (IsTrue A.takes_memory) }
-    ensures owned { IfOk result (λ r. EffectOwned A.word_reach A.flag_reach (A.extent alg.new) r) }
-    ensures means { IfOk result (λ r. (v : ℕ → Bool) → A.admits alg.new v → effect_of (λ w. A.word w v) (λ b. A.truth b v) r ≡ sum_with records (complement (values_of (λ w. A.word w v) from.now).a) (values_of (λ w. A.word w v) from.now).b true (values_of (λ w. A.word w v) from.now)) }
+    ensures gives { IfOk result (λ r. GivesEffect A.Alg alg.new r (λ v. sum_with records (complement (values_of (λ w. A.word w v) from.now).a) (values_of (λ w. A.word w v) from.now).b true (values_of (λ w. A.word w v) from.now))) }
 {
     let one = alg.flag(true);
     let not_a = alg.not(from.a);
@@ -39,14 +36,10 @@ pub(crate) fn subtract_carrying<A: Alg>(
     from: &GuestIn<A>,
 ) -> Result<Effect<A>, NoMemory>
     requires owned { IsOwned A.word_reach (A.extent alg.old) from.now }
-    ensures grows { A.extent alg.old ≤ A.extent alg.new }
-    ensures earlier { (v : ℕ → Bool) → A.admits alg.new v → A.admits alg.old v }
-    ensures opaque { A.opaque alg.new ≡ A.opaque alg.old }
-    ensures made { IfOk result (λ r. r ≡ (sum_carrying_term A.ops records (A.ops.not_of from.now.a) from.now.b (A.ops.flag_of true) (A.held alg.old) from.now).effect) }
-    ensures held { OnOk result (A.held alg.new ≡ (sum_carrying_term A.ops records (A.ops.not_of from.now.a) from.now.b (A.ops.flag_of true) (A.held alg.old) from.now).held) }
+    ensures later { IsLater A.Alg alg.old alg.new }
+    ensures makes { IfOk result (λ r. record { effect = r; held = A.held alg.new } ≡ sum_carrying_term A.ops records (A.ops.not_of from.now.a) from.now.b (A.ops.flag_of true) (A.held alg.old) from.now) }
     ensures fails { OnErr result (IsTrue A.takes_memory) }
-    ensures owned { IfOk result (λ r. EffectOwned A.word_reach A.flag_reach (A.extent alg.new) r) }
-    ensures means { IfOk result (λ r. (v : ℕ → Bool) → A.admits alg.new v → effect_of (λ w. A.word w v) (λ b. A.truth b v) r ≡ sum_carrying records (complement (values_of (λ w. A.word w v) from.now).a) (values_of (λ w. A.word w v) from.now).b true (values_of (λ w. A.word w v) from.now)) }
+    ensures gives { IfOk result (λ r. GivesEffect A.Alg alg.new r (λ v. sum_carrying records (complement (values_of (λ w. A.word w v) from.now).a) (values_of (λ w. A.word w v) from.now).b true (values_of (λ w. A.word w v) from.now))) }
 {
     let one = alg.flag(true);
     let not_a = alg.not(from.a);
@@ -60,14 +53,10 @@ pub(crate) fn subtract_extended<A: Alg>(
     from: &GuestIn<A>,
 ) -> Result<Effect<A>, NoMemory>
     requires owned { IsOwned A.word_reach (A.extent alg.old) from.now }
-    ensures grows { A.extent alg.old ≤ A.extent alg.new }
-    ensures earlier { (v : ℕ → Bool) → A.admits alg.new v → A.admits alg.old v }
-    ensures opaque { A.opaque alg.new ≡ A.opaque alg.old }
-    ensures made { IfOk result (λ r. r ≡ (sum_carrying_term A.ops records (A.ops.not_of from.now.a) from.now.b (ca_term A.ops from.now) (A.held alg.old) from.now).effect) }
-    ensures held { OnOk result (A.held alg.new ≡ (sum_carrying_term A.ops records (A.ops.not_of from.now.a) from.now.b (ca_term A.ops from.now) (A.held alg.old) from.now).held) }
+    ensures later { IsLater A.Alg alg.old alg.new }
+    ensures makes { IfOk result (λ r. record { effect = r; held = A.held alg.new } ≡ sum_carrying_term A.ops records (A.ops.not_of from.now.a) from.now.b (ca_term A.ops from.now) (A.held alg.old) from.now) }
     ensures fails { OnErr result (IsTrue A.takes_memory) }
-    ensures owned { IfOk result (λ r. EffectOwned A.word_reach A.flag_reach (A.extent alg.new) r) }
-    ensures means { IfOk result (λ r. (v : ℕ → Bool) → A.admits alg.new v → effect_of (λ w. A.word w v) (λ b. A.truth b v) r ≡ sum_carrying records (complement (values_of (λ w. A.word w v) from.now).a) (values_of (λ w. A.word w v) from.now).b (ca (values_of (λ w. A.word w v) from.now)) (values_of (λ w. A.word w v) from.now)) }
+    ensures gives { IfOk result (λ r. GivesEffect A.Alg alg.new r (λ v. sum_carrying records (complement (values_of (λ w. A.word w v) from.now).a) (values_of (λ w. A.word w v) from.now).b (ca (values_of (λ w. A.word w v) from.now)) (values_of (λ w. A.word w v) from.now))) }
 {
     let carry = carry_in(alg, from);
     let not_a = alg.not(from.a);

@@ -1,10 +1,11 @@
 //! Products and quotients.
 
-ghost use Rattle.std.specs.Prelude.{◌≡◌, ◌≤◌, ℕ, Bool, IfOk, OnOk, OnErr, IsTrue};
+ghost use Rattle.std.specs.Prelude.{◌≡◌, ◌≤◌, IfOk, OnErr, IsTrue};
+ghost use Rattle.word_kit.specs.Algebra.{MayUntie, GivesWord};
 ghost use Rattle.word_kit.specs.Products.{product_low, product_high};
 ghost use Rattle.ppc_isa.specs.ProductRows.{quotient_signed, quotient_unsigned};
 ghost use Rattle.ppc_isa.specs.Recording.{gives_d};
-ghost use Rattle.ppc_parts.specs.Meanings.{IsOwned, EffectOwned, values_of, effect_of};
+ghost use Rattle.ppc_parts.specs.Meanings.{IsOwned, values_of, GivesEffect};
 ghost use Rattle.ppc_sums.specs.ProductTerms.{product_term, high_product_term, signed_quotient_term, unsigned_quotient_term, divw_term, divwu_term};
 
 use ppc_parts::{Effect, GuestIn, gives_d};
@@ -17,14 +18,10 @@ pub(crate) fn product<A: Alg>(
     from: &GuestIn<A>,
 ) -> Result<Effect<A>, NoMemory>
     requires owned { IsOwned A.word_reach (A.extent alg.old) from.now }
-    ensures grows { A.extent alg.old ≤ A.extent alg.new }
-    ensures earlier { (v : ℕ → Bool) → A.admits alg.new v → A.admits alg.old v }
-    ensures opaque { A.opaque alg.old ≤ A.opaque alg.new }
-    ensures made { IfOk result (λ r. r ≡ (product_term A.ops records (A.held alg.old) from.now).effect) }
-    ensures held { OnOk result (A.held alg.new ≡ (product_term A.ops records (A.held alg.old) from.now).held) }
+    ensures later { MayUntie A.Alg alg.old alg.new }
+    ensures makes { IfOk result (λ r. record { effect = r; held = A.held alg.new } ≡ product_term A.ops records (A.held alg.old) from.now) }
     ensures fails { OnErr result (IsTrue A.takes_memory) }
-    ensures owned { IfOk result (λ r. EffectOwned A.word_reach A.flag_reach (A.extent alg.new) r) }
-    ensures means { IfOk result (λ r. (v : ℕ → Bool) → A.admits alg.new v → effect_of (λ w. A.word w v) (λ b. A.truth b v) r ≡ gives_d records (product_low (values_of (λ w. A.word w v) from.now).a (values_of (λ w. A.word w v) from.now).b) (values_of (λ w. A.word w v) from.now)) }
+    ensures gives { IfOk result (λ r. GivesEffect A.Alg alg.new r (λ v. gives_d records (product_low (values_of (λ w. A.word w v) from.now).a (values_of (λ w. A.word w v) from.now).b) (values_of (λ w. A.word w v) from.now))) }
 {
     let made = alg.mul_low(from.a, from.b)?;
     gives_d(alg, records, made, from)
@@ -38,14 +35,10 @@ pub(crate) fn high_product<A: Alg>(
     from: &GuestIn<A>,
 ) -> Result<Effect<A>, NoMemory>
     requires owned { IsOwned A.word_reach (A.extent alg.old) from.now }
-    ensures grows { A.extent alg.old ≤ A.extent alg.new }
-    ensures earlier { (v : ℕ → Bool) → A.admits alg.new v → A.admits alg.old v }
-    ensures opaque { A.opaque alg.old ≤ A.opaque alg.new }
-    ensures made { IfOk result (λ r. r ≡ (high_product_term A.ops signed records (A.held alg.old) from.now).effect) }
-    ensures held { OnOk result (A.held alg.new ≡ (high_product_term A.ops signed records (A.held alg.old) from.now).held) }
+    ensures later { MayUntie A.Alg alg.old alg.new }
+    ensures makes { IfOk result (λ r. record { effect = r; held = A.held alg.new } ≡ high_product_term A.ops signed records (A.held alg.old) from.now) }
     ensures fails { OnErr result (IsTrue A.takes_memory) }
-    ensures owned { IfOk result (λ r. EffectOwned A.word_reach A.flag_reach (A.extent alg.new) r) }
-    ensures means { IfOk result (λ r. (v : ℕ → Bool) → A.admits alg.new v → effect_of (λ w. A.word w v) (λ b. A.truth b v) r ≡ gives_d records (product_high (values_of (λ w. A.word w v) from.now).a (values_of (λ w. A.word w v) from.now).b signed) (values_of (λ w. A.word w v) from.now)) }
+    ensures gives { IfOk result (λ r. GivesEffect A.Alg alg.new r (λ v. gives_d records (product_high (values_of (λ w. A.word w v) from.now).a (values_of (λ w. A.word w v) from.now).b signed) (values_of (λ w. A.word w v) from.now))) }
 {
     let made = alg.mul_high(from.a, from.b, signed)?;
     gives_d(alg, records, made, from)
@@ -56,14 +49,10 @@ pub(crate) fn high_product<A: Alg>(
 pub(crate) fn signed_quotient<A: Alg>(alg: &mut A, x: A::W, y: A::W) -> Result<A::W, NoMemory>
     requires x_owned { A.word_reach x ≤ A.extent alg.old }
     requires y_owned { A.word_reach y ≤ A.extent alg.old }
-    ensures grows { A.extent alg.old ≤ A.extent alg.new }
-    ensures earlier { (v : ℕ → Bool) → A.admits alg.new v → A.admits alg.old v }
-    ensures opaque { A.opaque alg.old ≤ A.opaque alg.new }
-    ensures made { IfOk result (λ r. r ≡ (signed_quotient_term A.ops x y (A.held alg.old)).word) }
-    ensures held { OnOk result (A.held alg.new ≡ (signed_quotient_term A.ops x y (A.held alg.old)).held) }
+    ensures later { MayUntie A.Alg alg.old alg.new }
+    ensures makes { IfOk result (λ r. record { word = r; held = A.held alg.new } ≡ signed_quotient_term A.ops x y (A.held alg.old)) }
     ensures fails { OnErr result (IsTrue A.takes_memory) }
-    ensures owned { IfOk result (λ r. A.word_reach r ≤ A.extent alg.new) }
-    ensures means { IfOk result (λ r. (v : ℕ → Bool) → A.admits alg.new v → A.word r v ≡ quotient_signed (A.word x v) (A.word y v)) }
+    ensures gives { IfOk result (λ r. GivesWord A.Alg alg.new r (λ v. quotient_signed (A.word x v) (A.word y v))) }
 {
     let most = alg.lit(31);
     let signs = alg.shift_arith(x, most)?;
@@ -76,14 +65,10 @@ pub(crate) fn signed_quotient<A: Alg>(alg: &mut A, x: A::W, y: A::W) -> Result<A
 pub(crate) fn unsigned_quotient<A: Alg>(alg: &mut A, x: A::W, y: A::W) -> Result<A::W, NoMemory>
     requires x_owned { A.word_reach x ≤ A.extent alg.old }
     requires y_owned { A.word_reach y ≤ A.extent alg.old }
-    ensures grows { A.extent alg.old ≤ A.extent alg.new }
-    ensures earlier { (v : ℕ → Bool) → A.admits alg.new v → A.admits alg.old v }
-    ensures opaque { A.opaque alg.old ≤ A.opaque alg.new }
-    ensures made { IfOk result (λ r. r ≡ (unsigned_quotient_term A.ops x y (A.held alg.old)).word) }
-    ensures held { OnOk result (A.held alg.new ≡ (unsigned_quotient_term A.ops x y (A.held alg.old)).held) }
+    ensures later { MayUntie A.Alg alg.old alg.new }
+    ensures makes { IfOk result (λ r. record { word = r; held = A.held alg.new } ≡ unsigned_quotient_term A.ops x y (A.held alg.old)) }
     ensures fails { OnErr result (IsTrue A.takes_memory) }
-    ensures owned { IfOk result (λ r. A.word_reach r ≤ A.extent alg.new) }
-    ensures means { IfOk result (λ r. (v : ℕ → Bool) → A.admits alg.new v → A.word r v ≡ quotient_unsigned (A.word x v) (A.word y v)) }
+    ensures gives { IfOk result (λ r. GivesWord A.Alg alg.new r (λ v. quotient_unsigned (A.word x v) (A.word y v))) }
 {
     let zero = alg.lit(0);
     let (quotient, _, _) = alg.div(zero, x, y, false)?;
@@ -97,14 +82,10 @@ pub(crate) fn divw<A: Alg>(
     from: &GuestIn<A>,
 ) -> Result<Effect<A>, NoMemory>
     requires owned { IsOwned A.word_reach (A.extent alg.old) from.now }
-    ensures grows { A.extent alg.old ≤ A.extent alg.new }
-    ensures earlier { (v : ℕ → Bool) → A.admits alg.new v → A.admits alg.old v }
-    ensures opaque { A.opaque alg.old ≤ A.opaque alg.new }
-    ensures made { IfOk result (λ r. r ≡ (divw_term A.ops records (A.held alg.old) from.now).effect) }
-    ensures held { OnOk result (A.held alg.new ≡ (divw_term A.ops records (A.held alg.old) from.now).held) }
+    ensures later { MayUntie A.Alg alg.old alg.new }
+    ensures makes { IfOk result (λ r. record { effect = r; held = A.held alg.new } ≡ divw_term A.ops records (A.held alg.old) from.now) }
     ensures fails { OnErr result (IsTrue A.takes_memory) }
-    ensures owned { IfOk result (λ r. EffectOwned A.word_reach A.flag_reach (A.extent alg.new) r) }
-    ensures means { IfOk result (λ r. (v : ℕ → Bool) → A.admits alg.new v → effect_of (λ w. A.word w v) (λ b. A.truth b v) r ≡ gives_d records (quotient_signed (values_of (λ w. A.word w v) from.now).a (values_of (λ w. A.word w v) from.now).b) (values_of (λ w. A.word w v) from.now)) }
+    ensures gives { IfOk result (λ r. GivesEffect A.Alg alg.new r (λ v. gives_d records (quotient_signed (values_of (λ w. A.word w v) from.now).a (values_of (λ w. A.word w v) from.now).b) (values_of (λ w. A.word w v) from.now))) }
 {
     let made = signed_quotient(alg, from.a, from.b)?;
     gives_d(alg, records, made, from)
@@ -117,14 +98,10 @@ pub(crate) fn divwu<A: Alg>(
     from: &GuestIn<A>,
 ) -> Result<Effect<A>, NoMemory>
     requires owned { IsOwned A.word_reach (A.extent alg.old) from.now }
-    ensures grows { A.extent alg.old ≤ A.extent alg.new }
-    ensures earlier { (v : ℕ → Bool) → A.admits alg.new v → A.admits alg.old v }
-    ensures opaque { A.opaque alg.old ≤ A.opaque alg.new }
-    ensures made { IfOk result (λ r. r ≡ (divwu_term A.ops records (A.held alg.old) from.now).effect) }
-    ensures held { OnOk result (A.held alg.new ≡ (divwu_term A.ops records (A.held alg.old) from.now).held) }
+    ensures later { MayUntie A.Alg alg.old alg.new }
+    ensures makes { IfOk result (λ r. record { effect = r; held = A.held alg.new } ≡ divwu_term A.ops records (A.held alg.old) from.now) }
     ensures fails { OnErr result (IsTrue A.takes_memory) }
-    ensures owned { IfOk result (λ r. EffectOwned A.word_reach A.flag_reach (A.extent alg.new) r) }
-    ensures means { IfOk result (λ r. (v : ℕ → Bool) → A.admits alg.new v → effect_of (λ w. A.word w v) (λ b. A.truth b v) r ≡ gives_d records (quotient_unsigned (values_of (λ w. A.word w v) from.now).a (values_of (λ w. A.word w v) from.now).b) (values_of (λ w. A.word w v) from.now)) }
+    ensures gives { IfOk result (λ r. GivesEffect A.Alg alg.new r (λ v. gives_d records (quotient_unsigned (values_of (λ w. A.word w v) from.now).a (values_of (λ w. A.word w v) from.now).b) (values_of (λ w. A.word w v) from.now))) }
 {
     let made = unsigned_quotient(alg, from.a, from.b)?;
     gives_d(alg, records, made, from)

@@ -1,8 +1,9 @@
 //! Arithmetic by its ops.
 
-ghost use Rattle.std.specs.Prelude.{false, ◌≡◌, ◌≤◌, ℕ, Bool, IfOk, OnOk, OnErr, IsTrue};
+ghost use Rattle.std.specs.Prelude.{false, ◌≡◌, IfOk, OnErr, IsTrue};
+ghost use Rattle.word_kit.specs.Algebra.{IsLater, MayUntie};
 ghost use Rattle.ppc_isa.specs.Rows.{immediate_row, arithmetic_row, arithmetic_unary_row};
-ghost use Rattle.ppc_parts.specs.Meanings.{IsOwned, EffectOwned, values_of, effect_of};
+ghost use Rattle.ppc_parts.specs.Meanings.{IsOwned, values_of, GivesEffect};
 ghost use Rattle.ppc_sums.specs.ArithmeticTerms.{immediate_term, arithmetic_term, arithmetic_unary_term};
 ghost use Rattle.ppc_sums.specs.ProductTerms.{is_immediate_product, is_product};
 
@@ -22,15 +23,11 @@ pub fn immediate_row<A: Alg>(
     from: &GuestIn<A>,
 ) -> Result<Effect<A>, NoMemory>
     requires owned { IsOwned A.word_reach (A.extent alg.old) from.now }
-    ensures grows { A.extent alg.old ≤ A.extent alg.new }
-    ensures earlier { (v : ℕ → Bool) → A.admits alg.new v → A.admits alg.old v }
-    ensures opaque { A.opaque alg.old ≤ A.opaque alg.new }
+    ensures later { MayUntie A.Alg alg.old alg.new }
     ensures keeps { is_immediate_product op ≡ false → A.opaque alg.new ≡ A.opaque alg.old }
-    ensures made { IfOk result (λ r. r ≡ (immediate_term A.ops op a (A.held alg.old) from.now).effect) }
-    ensures held { OnOk result (A.held alg.new ≡ (immediate_term A.ops op a (A.held alg.old) from.now).held) }
+    ensures makes { IfOk result (λ r. record { effect = r; held = A.held alg.new } ≡ immediate_term A.ops op a (A.held alg.old) from.now) }
     ensures fails { OnErr result (IsTrue A.takes_memory) }
-    ensures owned { IfOk result (λ r. EffectOwned A.word_reach A.flag_reach (A.extent alg.new) r) }
-    ensures means { IfOk result (λ r. (v : ℕ → Bool) → A.admits alg.new v → effect_of (λ w. A.word w v) (λ b. A.truth b v) r ≡ immediate_row op a (values_of (λ w. A.word w v) from.now)) }
+    ensures gives { IfOk result (λ r. GivesEffect A.Alg alg.new r (λ v. immediate_row op a (values_of (λ w. A.word w v) from.now))) }
 {
     let base = base(alg, a, from);
     let none = alg.flag(false);
@@ -52,15 +49,11 @@ pub fn arithmetic_row<A: Alg>(
     from: &GuestIn<A>,
 ) -> Result<Effect<A>, NoMemory>
     requires owned { IsOwned A.word_reach (A.extent alg.old) from.now }
-    ensures grows { A.extent alg.old ≤ A.extent alg.new }
-    ensures earlier { (v : ℕ → Bool) → A.admits alg.new v → A.admits alg.old v }
-    ensures opaque { A.opaque alg.old ≤ A.opaque alg.new }
+    ensures later { MayUntie A.Alg alg.old alg.new }
     ensures keeps { is_product op ≡ false → A.opaque alg.new ≡ A.opaque alg.old }
-    ensures made { IfOk result (λ r. r ≡ (arithmetic_term A.ops op records (A.held alg.old) from.now).effect) }
-    ensures held { OnOk result (A.held alg.new ≡ (arithmetic_term A.ops op records (A.held alg.old) from.now).held) }
+    ensures makes { IfOk result (λ r. record { effect = r; held = A.held alg.new } ≡ arithmetic_term A.ops op records (A.held alg.old) from.now) }
     ensures fails { OnErr result (IsTrue A.takes_memory) }
-    ensures owned { IfOk result (λ r. EffectOwned A.word_reach A.flag_reach (A.extent alg.new) r) }
-    ensures means { IfOk result (λ r. (v : ℕ → Bool) → A.admits alg.new v → effect_of (λ w. A.word w v) (λ b. A.truth b v) r ≡ arithmetic_row op records (values_of (λ w. A.word w v) from.now)) }
+    ensures gives { IfOk result (λ r. GivesEffect A.Alg alg.new r (λ v. arithmetic_row op records (values_of (λ w. A.word w v) from.now))) }
 {
     let none = alg.flag(false);
     let ca = carry_in(alg, from);
@@ -88,14 +81,10 @@ pub fn arithmetic_unary_row<A: Alg>(
     from: &GuestIn<A>,
 ) -> Result<Effect<A>, NoMemory>
     requires owned { IsOwned A.word_reach (A.extent alg.old) from.now }
-    ensures grows { A.extent alg.old ≤ A.extent alg.new }
-    ensures earlier { (v : ℕ → Bool) → A.admits alg.new v → A.admits alg.old v }
-    ensures opaque { A.opaque alg.new ≡ A.opaque alg.old }
-    ensures made { IfOk result (λ r. r ≡ (arithmetic_unary_term A.ops op records (A.held alg.old) from.now).effect) }
-    ensures held { OnOk result (A.held alg.new ≡ (arithmetic_unary_term A.ops op records (A.held alg.old) from.now).held) }
+    ensures later { IsLater A.Alg alg.old alg.new }
+    ensures makes { IfOk result (λ r. record { effect = r; held = A.held alg.new } ≡ arithmetic_unary_term A.ops op records (A.held alg.old) from.now) }
     ensures fails { OnErr result (IsTrue A.takes_memory) }
-    ensures owned { IfOk result (λ r. EffectOwned A.word_reach A.flag_reach (A.extent alg.new) r) }
-    ensures means { IfOk result (λ r. (v : ℕ → Bool) → A.admits alg.new v → effect_of (λ w. A.word w v) (λ b. A.truth b v) r ≡ arithmetic_unary_row op records (values_of (λ w. A.word w v) from.now)) }
+    ensures gives { IfOk result (λ r. GivesEffect A.Alg alg.new r (λ v. arithmetic_unary_row op records (values_of (λ w. A.word w v) from.now))) }
 {
     let zero = alg.lit(0);
     let ones = alg.lit(u32::MAX);

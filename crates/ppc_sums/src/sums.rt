@@ -1,9 +1,10 @@
 //! Sums.
 
-ghost use Rattle.std.specs.Prelude.{false, ◌≡◌, ◌≤◌, ℕ, Bool, IfOk, OnOk, OnErr, IsTrue};
+ghost use Rattle.std.specs.Prelude.{false, ◌≡◌, ◌≤◌, ℕ, Bool, IfOk, OnErr, IsTrue};
+ghost use Rattle.word_kit.specs.Algebra.{IsLater};
 ghost use Rattle.ppc_isa.specs.Recording.{ca};
 ghost use Rattle.ppc_isa.specs.SumRows.{sum, sum_with, sum_carrying};
-ghost use Rattle.ppc_parts.specs.Meanings.{IsOwned, EffectOwned, values_of, effect_of};
+ghost use Rattle.ppc_parts.specs.Meanings.{IsOwned, values_of, GivesEffect};
 ghost use Rattle.ppc_sums.specs.SumTerms.{sum_term, sum_carrying_term, ca_term};
 
 use ppc_parts::{Effect, GuestIn, gives_d};
@@ -20,14 +21,10 @@ pub(crate) fn plain_sum<A: Alg>(
     requires x_owned { A.word_reach x ≤ A.extent alg.old }
     requires y_owned { A.word_reach y ≤ A.extent alg.old }
     requires owned { IsOwned A.word_reach (A.extent alg.old) from.now }
-    ensures grows { A.extent alg.old ≤ A.extent alg.new }
-    ensures earlier { (v : ℕ → Bool) → A.admits alg.new v → A.admits alg.old v }
-    ensures opaque { A.opaque alg.new ≡ A.opaque alg.old }
-    ensures made { IfOk result (λ r. r ≡ (sum_term A.ops records x y (A.ops.flag_of false) (A.held alg.old) from.now).effect) }
-    ensures held { OnOk result (A.held alg.new ≡ (sum_term A.ops records x y (A.ops.flag_of false) (A.held alg.old) from.now).held) }
+    ensures later { IsLater A.Alg alg.old alg.new }
+    ensures makes { IfOk result (λ r. record { effect = r; held = A.held alg.new } ≡ sum_term A.ops records x y (A.ops.flag_of false) (A.held alg.old) from.now) }
     ensures fails { OnErr result (IsTrue A.takes_memory) }
-    ensures owned { IfOk result (λ r. EffectOwned A.word_reach A.flag_reach (A.extent alg.new) r) }
-    ensures means { IfOk result (λ r. (v : ℕ → Bool) → A.admits alg.new v → effect_of (λ w. A.word w v) (λ b. A.truth b v) r ≡ sum records (A.word x v) (A.word y v) (values_of (λ w. A.word w v) from.now)) }
+    ensures gives { IfOk result (λ r. GivesEffect A.Alg alg.new r (λ v. sum records (A.word x v) (A.word y v) (values_of (λ w. A.word w v) from.now))) }
 {
     let none = alg.flag(false);
     let (sum, _) = alg.add(x, y, none)?;
@@ -47,14 +44,10 @@ pub(crate) fn sum<A: Alg>(
     requires y_owned { A.word_reach y ≤ A.extent alg.old }
     requires carry_owned { A.flag_reach carry ≤ A.extent alg.old }
     requires owned { IsOwned A.word_reach (A.extent alg.old) from.now }
-    ensures grows { A.extent alg.old ≤ A.extent alg.new }
-    ensures earlier { (v : ℕ → Bool) → A.admits alg.new v → A.admits alg.old v }
-    ensures opaque { A.opaque alg.new ≡ A.opaque alg.old }
-    ensures made { IfOk result (λ r. r ≡ (sum_term A.ops records x y carry (A.held alg.old) from.now).effect) }
-    ensures held { OnOk result (A.held alg.new ≡ (sum_term A.ops records x y carry (A.held alg.old) from.now).held) }
+    ensures later { IsLater A.Alg alg.old alg.new }
+    ensures makes { IfOk result (λ r. record { effect = r; held = A.held alg.new } ≡ sum_term A.ops records x y carry (A.held alg.old) from.now) }
     ensures fails { OnErr result (IsTrue A.takes_memory) }
-    ensures owned { IfOk result (λ r. EffectOwned A.word_reach A.flag_reach (A.extent alg.new) r) }
-    ensures means { IfOk result (λ r. (v : ℕ → Bool) → A.admits alg.new v → effect_of (λ w. A.word w v) (λ b. A.truth b v) r ≡ sum_with records (A.word x v) (A.word y v) (A.truth carry v) (values_of (λ w. A.word w v) from.now)) }
+    ensures gives { IfOk result (λ r. GivesEffect A.Alg alg.new r (λ v. sum_with records (A.word x v) (A.word y v) (A.truth carry v) (values_of (λ w. A.word w v) from.now))) }
 {
     let (sum, _) = alg.add(x, y, carry)?;
     gives_d(alg, records, sum, from)
@@ -73,14 +66,10 @@ pub(crate) fn sum_carrying<A: Alg>(
     requires y_owned { A.word_reach y ≤ A.extent alg.old }
     requires carry_owned { A.flag_reach carry ≤ A.extent alg.old }
     requires owned { IsOwned A.word_reach (A.extent alg.old) from.now }
-    ensures grows { A.extent alg.old ≤ A.extent alg.new }
-    ensures earlier { (v : ℕ → Bool) → A.admits alg.new v → A.admits alg.old v }
-    ensures opaque { A.opaque alg.new ≡ A.opaque alg.old }
-    ensures made { IfOk result (λ r. r ≡ (sum_carrying_term A.ops records x y carry (A.held alg.old) from.now).effect) }
-    ensures held { OnOk result (A.held alg.new ≡ (sum_carrying_term A.ops records x y carry (A.held alg.old) from.now).held) }
+    ensures later { IsLater A.Alg alg.old alg.new }
+    ensures makes { IfOk result (λ r. record { effect = r; held = A.held alg.new } ≡ sum_carrying_term A.ops records x y carry (A.held alg.old) from.now) }
     ensures fails { OnErr result (IsTrue A.takes_memory) }
-    ensures owned { IfOk result (λ r. EffectOwned A.word_reach A.flag_reach (A.extent alg.new) r) }
-    ensures means { IfOk result (λ r. (v : ℕ → Bool) → A.admits alg.new v → effect_of (λ w. A.word w v) (λ b. A.truth b v) r ≡ sum_carrying records (A.word x v) (A.word y v) (A.truth carry v) (values_of (λ w. A.word w v) from.now)) }
+    ensures gives { IfOk result (λ r. GivesEffect A.Alg alg.new r (λ v. sum_carrying records (A.word x v) (A.word y v) (A.truth carry v) (values_of (λ w. A.word w v) from.now))) }
 {
     let (sum, out) = alg.add(x, y, carry)?;
     let xer = alg.put_bit(from.xer, 29, out);

@@ -13,11 +13,7 @@ loop-place-init g c = search rules
 
 pub loop-place-preserved : goal.loop-place-preserved
 loop-place-preserved g c = record {
-  grows = search rules;
-  earlier = search rules;
-  opaque = search rules;
-  made = simp more (search rules);
-  held = simp more (search rules);
-  owned = search rules;
-  means = simp more (search rules);
+  later = search rules;
+  makes = simp more (search rules);
+  gives = record { owned = search rules; means = simp more (search rules) };
 }
