@@ -1,35 +1,17 @@
 -- What a file carries that is written for a program. This project's own.
-use Rattle.std.specs.Prelude.{◌≡◌, ℕ, ◌+◌, ◌*◌, ◌<◌, true, List, length, slice_index, Option}
+use Rattle.std.specs.Prelude.{◌≡◌, ℕ, true, List}
 use Rattle.space.specs.declared.program.Kind.TheVariants.{Ia32}
 use Rattle.space.specs.declared.program.Program.{Program}
-use Rattle.ppc_isa.specs.declared.instr.Instr.{Instr}
 use Rattle.branch_table.specs.declared.code.Code.{Code}
 use Rattle.elf_load.specs.Area.{IsHostArea}
 use Rattle.elf_load.specs.Faults.{IsProgramOf}
 use Rattle.elf_emit.specs.File.{elf_file}
 use Rattle.elf_emit.specs.Translation.{FitsArea, file_segments, translated}
 use Rattle.machines.specs.Files.{Agrees}
-use Rattle.code_layout.specs.Decoded.{AreDecodedAs}
-use Rattle.code_layout.specs.Layout.{IsCodeFor}
-use Rattle.code_words.specs.Words.{HasWords, first_of}
+use Rattle.code_layout.specs.Layout.{IsLaidFor}
 use Rattle.laid_code.specs.Instance.{Interface, without_registers}
 use Rattle.upkeep.specs.Loaded.{AreBytes}
 use Rattle.agreement.specs.Plans.{CarriesPlans}
-
--- The code that is laid out for a program over an area: the block of each of its code words with the table of where
--- they stand, and the table's word of the one at which the program begins.
-pub record IsLaidFor (P : Program) (area : ℕ) (code : Code) : Type 0 where
-  pub words : List ℕ
-  pub entry : ℕ
-  pub has : HasWords P (first_of P) words
-  pub decoded : List (Option Instr)
-  pub are_decoded : AreDecodedAs words decoded
-  pub begins : P.entry ≡ first_of P + 4 * entry
-  pub within : entry < length words
-  pub blocks : IsCodeFor (first_of P) entry words decoded area code.entries code.bytes
-  pub count : length code.entries ≡ length words
-  pub start : code.start ≡ slice_index code.entries entry
-  pub fits : FitsArea code
 
 -- The file carries a program's translation: byte for byte it is the program's segments, and in the host area, the least
 -- that is free beside them, the home page, the table and the code that is laid out for the program; and it is loaded so.
@@ -38,6 +20,7 @@ pub record Carries (P : Program) (file : List ℕ) : Type 0 where
   pub code : Code
   pub in_area : IsHostArea P.segments area
   pub laid : IsLaidFor P area code
+  pub fits : FitsArea code
   pub whole : file ≡ elf_file code.start (file_segments P code area)
   pub loaded : IsProgramOf Ia32 file (translated P code area)
 

@@ -1,5 +1,6 @@
 //! Blocks with their words.
-ghost use Rattle.std.specs.Prelude.{◌≡◌};
+ghost use Rattle.std.specs.Prelude.{◌≡◌, ◌<◌, ◌≤◌, length};
+ghost use Rattle.block_find.specs.Laws.{all_blocks, block_at};
 
 use std::marker::Model;
 
@@ -95,4 +96,27 @@ pub struct Blocks {
     pub leaders: BlockList,
     /// The code words that are no leaders, ascending, each as a block of its own.
     pub singles: BlockList,
+}
+
+impl Blocks {
+    /// How many blocks there are.
+    pub fn count(&self) -> usize
+        requires { length (all_blocks self.now) ≤ 262144 }
+        ensures { result ≡ length (all_blocks self.now) }
+    {
+        self.leaders.as_slice().len() + self.singles.as_slice().len()
+    }
+
+    /// The block at a place among all: the leaders' come first, and behind them the singles.
+    pub fn at(&self, place: usize) -> &Block
+        requires { place < length (all_blocks self.now) }
+        ensures { result.now ≡ block_at (all_blocks self.now) place }
+    {
+        let leaders = self.leaders.as_slice();
+        if place < leaders.len() {
+            &leaders[place]
+        } else {
+            &self.singles.as_slice()[place - leaders.len()]
+        }
+    }
 }

@@ -11,7 +11,7 @@ use Rattle.ia_codec.specs.declared.op.Op.{Op}
 use Rattle.ia_codec.specs.declared.op.Op.TheVariants.{AluTo, AluFrom, AluImm, TestReg, TestImm, Unary, Imul, MovTo, MovFrom, MovToImm, MovHalfTo, MovByteTo, MovByteFrom, Shift, ShiftByCl, Lea, Extend, Set, Cmov, Bsr, JmpTo}
 use Rattle.ia_codec.specs.Spelling.{modrm, dword, spelling, alu_number, shift_number, unary_number}
 use Rattle.symbolic_tiles.specs.declared.flow_op.FlowOp.{FlowOp}
-use Rattle.code_layout.specs.Blocks.{address_of}
+use Rattle.block_find.specs.Branches.{address_of}
 use Rattle.code_layout.specs.Places.{Places, place_of, entry_of}
 use Rattle.code_layout.specs.Code.{jump_on, jump, condition_of, item_length, item_bytes, items_bytes}
 use Rattle.reg_map.specs.Relocated.{operand_at, op_at}

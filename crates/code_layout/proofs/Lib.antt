@@ -1,11 +1,11 @@
 pub mod StraightTiles
 pub mod BuiltWords
-pub mod LaidItems
-pub mod Leaders
+pub mod BlockItems
+pub mod Tiles
 pub mod Lengths
 pub mod Laying
 pub mod Laid
-pub mod Beginning
+pub mod Blocks
+pub mod Program
 pub mod Conditions
-pub mod Short
 pub mod Spelled

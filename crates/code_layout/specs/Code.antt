@@ -1,5 +1,5 @@
--- The items of a code word, and their bytes. This project's own.
-use Rattle.std.specs.Prelude.{ℕ, ◌+◌, ◌-◌, ◌%◌, ◌^◌, ◌==◌, Bool, List, [], ◌∷◌, ◌++◌, map, find, length, Option, None, Some, if◌then◌else◌}
+-- The items of a block, and their bytes. This project's own.
+use Rattle.std.specs.Prelude.{ℕ, ◌+◌, ◌-◌, ◌%◌, ◌^◌, ◌==◌, List, [], ◌∷◌, ◌++◌, map, find, length, Option, None, Some, if◌then◌else◌}
 use Rattle.ppc_isa.specs.declared.instr.Instr.{Instr}
 use Rattle.ia_codec.specs.Spelling.{condition_number, spelling}
 use Rattle.ia_codec.specs.declared.op.Op.{Op}
@@ -26,14 +26,13 @@ use Rattle.symbolic_tiles.specs.declared.flow_op.FlowOp.TheVariants.{Plain, Jump
 abbrev pub word_ops : Instr → Map → List Op
 word_ops i map = if has_access i then access_tile i map else alu_tile i map
 
--- this tile, with the edge to the next address where its block ends
-abbrev pub straight : Instr → ℕ → Bool → List FlowOp
-straight i at ends = map (λ op. Plain op) (word_ops i no_registers) ++ (if ends then Edge (next_address at) ∷ [] else [])
-
--- the items of a word at an address, at the end of its block or before it
-abbrev pub items : Option Instr → ℕ → Bool → List FlowOp
-items (Some i) at ends = if is_flow i then flow_tile i at no_registers else straight i at ends
-items None at ends = flows_of illegal_items no_registers
+-- The items of a block whose words, decoded, stand one behind another from a guest address on: the base tile of each, up to
+-- the first that is a flow word or an illegal one, which ends the block; and where none is, behind the last of them the edge
+-- to the next address.
+unfoldable pub block_items : ℕ → List (Option Instr) → List FlowOp
+block_items at [] = Edge at ∷ []
+block_items at (None ∷ words) = flows_of illegal_items no_registers
+block_items at (Some i ∷ words) = if is_flow i then flow_tile i at no_registers else map (λ op. Plain op) (word_ops i no_registers) ++ block_items (next_address at) words
 
 -- the bytes of ops one behind another
 abbrev pub spelled : List Op → List ℕ

@@ -1,6 +1,5 @@
 pub mod Built
 pub mod Decoded
-pub mod Blocks
 pub mod Places
 pub mod PlacesOf
 pub mod Leap

@@ -1,23 +1,17 @@
-//! The code of one word: its items, and these as bytes at their address.
+//! Items as bytes at their address.
 
-ghost use Rattle.std.specs.Prelude.{◌≡◌, ◌≤◌, ◌<◌, ◌+◌, ◌*◌, ◌^◌, [], ◌∷◌, ◌++◌, Some, IfOk, OnOk, All, map, length, vec_len};
+ghost use Rattle.std.specs.Prelude.{◌≡◌, ◌≤◌, ◌<◌, ◌+◌, ◌*◌, ◌^◌, ◌++◌, OnOk, All, length, vec_len};
 ghost use Rattle.ia_codec.specs.Spelling.{spelling, IsInProfile, IsOperand};
-ghost use Rattle.ppc_isa.specs.Legal.{IsLegal};
-ghost use Rattle.code_layout.specs.Built.{IsBuiltStraight};
-ghost use Rattle.code_layout.specs.Decoded.{IsLegalDecoded};
-ghost use Rattle.reg_map.specs.Place.{IsMap};
 ghost use Rattle.reg_map.specs.Relocated.{operand_at as operand_over, op_at};
-ghost use Rattle.code_layout.specs.Code.{IsLaid, word_ops, items, jump as jump_of, item_length as length_of, items_length, before_mark as before_mark_of, spelled, leap_bytes, item_bytes, items_bytes};
+ghost use Rattle.code_layout.specs.Code.{IsLaid, jump as jump_of, item_length as length_of, items_length, before_mark as before_mark_of, spelled, leap_bytes, item_bytes, items_bytes};
 ghost use Rattle.code_layout.specs.Leap.{leap_ops as leap_ops_of};
 ghost use Rattle.code_layout.specs.Places.{no_moves};
 ghost use Rattle.code_layout.specs.PlacesOf.{places_of};
 
 use crate::places::Layout;
-use base_flow::{FlowOp, is_flow, next_address};
+use base_flow::FlowOp;
 use ia_codec::{AluOp, Condition, Op, Operand, encode};
-use ppc_isa::{Instr, Map};
 use reg_map::{EAX, ECX};
-use std::alloc::Global;
 use word_kit::NoMemory;
 
 // The indirect sequence has 32 bytes, and its jump to `hold` ends 26 behind its start.
@@ -25,89 +19,10 @@ const LEAP_LENGTH: u32 = 32;
 
 const TO_HOLD_END: u32 = 26;
 
-/// The items of a code word at an address: its tile, which is ud2 for an illegal word, and where its block
-/// ends without a flow word the edge to the next address.
-pub fn word_items(
-    alloc: Global,
-    word: &Option<Instr>,
-    at: u32,
-    ends: bool,
-) -> Result<Vec<FlowOp>, NoMemory>
-    requires { IsLegalDecoded word.now }
-    ensures items { IfOk result (λ v. v.items ≡ items word.now at ends) }
-    ensures laid { IfOk result (λ v. All IsLaid v.items) }
-    ensures few { IfOk result (λ v. vec_len v ≤ 129) }
-    ensures short { IfOk result (λ v. items_length no_moves v.items ≤ 636) }
-{
-    match word {
-        Some(instr) => items_of(alloc, instr, at, ends),
-        None => plain_items(alloc, &[Op::Ud2]),
-    }
-}
-
-// The items of an instruction at an address, at the end of its block or before it.
-fn items_of(alloc: Global, instr: &Instr, at: u32, ends: bool) -> Result<Vec<FlowOp>, NoMemory>
-    requires { IsLegal instr.now }
-    ensures items { IfOk result (λ v. v.items ≡ items (Some instr.now) at ends) }
-    ensures few { IfOk result (λ v. vec_len v ≤ 129) }
-{
-    let map = Map {
-        ebx: None,
-        esi: None,
-        edi: None,
-    };
-    if is_flow(instr) {
-        return base_flow::emit(alloc, instr, at, &map);
-    }
-    let ops = straight_ops(alloc, instr, &map)?;
-    let flow = plain_items(alloc, &ops)?;
-    if ends {
-        with_edge(flow, next_address(at))
-    } else {
-        Ok(flow)
-    }
-}
-
-// The ops of a word that is no flow word.
-fn straight_ops(alloc: Global, instr: &Instr, map: &Map) -> Result<Vec<Op>, NoMemory>
-    requires map { IsMap map.now }
-    requires built { IsBuiltStraight instr.now }
-    requires legal { IsLegal instr.now }
-    ensures ops { IfOk result (λ ops. ops.items ≡ word_ops instr.now map.now) }
-    ensures few { IfOk result (λ ops. length ops.items ≤ 128) }
-{
-    if base_mem::is_built(instr) {
-        base_mem::emit(alloc, instr, map)
-    } else {
-        base_alu::emit(alloc, instr, map)
-    }
-}
-
-// The ops as items.
-fn plain_items(alloc: Global, ops: &[Op]) -> Result<Vec<FlowOp>, NoMemory>
-    ensures items { IfOk result (λ v. v.items ≡ map (λ op. FlowOp.Plain op) ops.now) }
-    ensures count { IfOk result (λ v. vec_len v ≡ length ops.now) }
-{
-    let mut items = Vec::with_capacity(alloc, ops.len())?;
-    for op in ops {
-        items.push(FlowOp::Plain(*op))?;
-    }
-    Ok(items)
-}
-
-// The items, and behind them the edge to an address.
-fn with_edge(mut items: Vec<FlowOp>, address: u32) -> Result<Vec<FlowOp>, NoMemory>
-    ensures items { IfOk result (λ v. v.items ≡ items.items ++ FlowOp.Edge address ∷ []) }
-    ensures count { IfOk result (λ v. vec_len v ≡ vec_len items + 1) }
-{
-    items.push(FlowOp::Edge(address))?;
-    Ok(items)
-}
-
 /// The length of the items in bytes.
 pub fn length(items: &[FlowOp]) -> u32
     requires laid { All IsLaid items.now }
-    requires few { length items.now ≤ 129 }
+    requires few { length items.now ≤ 8193 }
     ensures value { result ≡ items_length no_moves items.now }
     ensures bound { result ≤ 32 * length items.now }
 {
@@ -136,7 +51,7 @@ fn item_length(item: &FlowOp) -> u32
 // How many bytes stand before a mark.
 fn before_mark(items: &[FlowOp], mark: u8) -> u32
     requires laid { All IsLaid items.now }
-    requires few { length items.now ≤ 129 }
+    requires few { length items.now ≤ 8193 }
     ensures { result ≡ before_mark_of no_moves items.now mark }
 {
     let mut bytes = 0;
@@ -152,7 +67,7 @@ fn before_mark(items: &[FlowOp], mark: u8) -> u32
 /// Puts the items behind the code that stands already.
 pub fn put(code: &mut Vec<u8>, items: &[FlowOp], layout: &Layout<'_>) -> Result<(), NoMemory>
     requires laid { All IsLaid items.now }
-    requires few { length items.now ≤ 129 }
+    requires few { length items.now ≤ 8193 }
     requires room { layout.now.code + vec_len code.old + 32 * length items.now < 2 ^ 32 }
     ensures bytes { OnOk result (code.new.items ≡ code.old.items ++ items_bytes (places_of layout.now) (layout.now.code + vec_len code.old) items.now) }
     ensures length { OnOk result (vec_len code.new ≡ vec_len code.old + items_length no_moves items.now) }
@@ -174,7 +89,7 @@ fn put_item(
 ) -> Result<(), NoMemory>
     requires laid { IsLaid item.now }
     requires rest { All IsLaid rest.now }
-    requires few { length rest.now ≤ 129 }
+    requires few { length rest.now ≤ 8193 }
     requires room { layout.now.code + vec_len code.old + 32 < 2 ^ 32 }
     ensures bytes { OnOk result (code.new.items ≡ code.old.items ++ item_bytes (places_of layout.now) (layout.now.code + vec_len code.old) item.now rest.now) }
     ensures length { OnOk result (vec_len code.new ≡ vec_len code.old + length_of no_moves item.now) }

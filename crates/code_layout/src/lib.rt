@@ -1,7 +1,7 @@
-//! The code of a translation: its blocks, their order, and each op at its address.
+//! The code of a translation: its blocks, and each op of theirs at its address.
 #![tactic(auto)]
 
-mod blocks;
+mod block_code;
 mod code;
 mod decoded;
 mod layout;
@@ -9,6 +9,4 @@ mod places;
 mod program_code;
 mod source;
 
-pub use decoded::decoded_words;
 pub use program_code::lay;
-pub use source::Source;

@@ -1,9 +1,8 @@
 //! Where the parts of a written file stand.
 
-ghost use Rattle.std.specs.Prelude.{◌≡◌, ◌≤◌, ◌+◌, ◌*◌, ◌^◌, length};
+ghost use Rattle.std.specs.Prelude.{◌≡◌, ◌≢◌, ◌≤◌, ◌<◌, ◌+◌, ◌*◌, ◌^◌, ℕ, MatchOption, length};
+ghost use Rattle.block_find.specs.Branches.{address_of as address};
 ghost use Rattle.code_layout.specs.Places.{entry_of};
-
-use crate::blocks::place_at;
 
 /// Where the code and what it reads stand on the host.
 #[derive(Clone, Copy)]
@@ -32,5 +31,20 @@ impl Layout<'_> {
             Some(place) => self.entries[place],
             None => self.code,
         }
+    }
+}
+
+// The place of the code word at the address `at`, where one of `count` from `first` on stands there.
+fn place_at(first: u32, at: u32, count: usize) -> Option<usize>
+    requires few { count ≤ 131072 }
+    requires room { first + 4 * count ≤ 2 ^ 32 }
+    ensures { MatchOption result ((k : ℕ) → k < count → at ≢ address first k) (λ k. (k < count) × (at ≡ address first k)) }
+{
+    let offset = at.wrapping_sub(first);
+    let place = (offset / 4) as usize;
+    if offset % 4 == 0 && place < count {
+        Some(place)
+    } else {
+        None
     }
 }

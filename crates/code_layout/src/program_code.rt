@@ -1,15 +1,20 @@
 //! The code of a program over its host area.
 
-ghost use Rattle.std.specs.Prelude.{◌≡◌, ◌≤◌, ◌<◌, ◌+◌, ℕ, IfOk, length, slice_index};
-ghost use Rattle.code_layout.specs.Decoded.{AreDecodedAs};
-ghost use Rattle.code_layout.specs.Layout.{IsCodeFor};
+ghost use Rattle.std.specs.Prelude.{◌≡◌, ◌≤◌, ◌+◌, ◌*◌, ℕ, IfOk, List, length};
+ghost use Rattle.space.specs.declared.program.Kind.TheVariants.{PowerPc};
+ghost use Rattle.elf_load.specs.Faults.{IsProgramOf};
+ghost use Rattle.code_words.specs.Words.{HasWords, first_of};
+ghost use Rattle.block_find.specs.Blocks.{AreBlocksOf};
+ghost use Rattle.code_layout.specs.Layout.{IsLaidFor};
 
-use crate::blocks::order;
+use crate::decoded::decoded_words;
 use crate::layout::{code, entries};
 use crate::places::Layout;
 use crate::source::Source;
-use block_find::leaders;
+use block_find::Blocks;
 use branch_table::{Code, CodeBytes, Entries};
+use code_words::{code_words, entry_place, first};
+use space::Program;
 use std::alloc::Global;
 use word_kit::NoMemory;
 
@@ -18,25 +23,31 @@ const TABLE_OFFSET: u32 = 0x1000;
 // Where the code stands behind the home page and the table, which has room for 512 KiB.
 const CODE_OFFSET: u32 = 0x8_1000;
 
-/// The code of a program over the host area that begins at `area`: `hold`, and behind it the block of
-/// each code word, with the table of where they stand.
-pub fn lay(alloc: Global, source: &Source<'_>, area: u32) -> Result<Code, NoMemory>
-    requires decoded { AreDecodedAs source.now.words.now source.now.decoded.now }
+/// The code of a program over the host area that begins at `area`: `hold`, and behind it the program's
+/// blocks, those of the leaders and then the singles, with the table of where the block of each code
+/// word stands.
+///
+/// # Errors
+/// `NoMemory` where there is no memory for it.
+pub fn lay(alloc: Global, program: &Program, blocks: &Blocks, area: u32) -> Result<Code, NoMemory>
+    requires program { (bytes : List ℕ) × IsProgramOf PowerPc bytes program.now }
+    requires blocks { (words : List ℕ) (entry : ℕ) → HasWords program.now (first_of program.now) words → program.now.entry ≡ first_of program.now + 4 * entry → AreBlocksOf (first_of program.now) entry words blocks.now }
     requires area { area + 0x0A000000 ≤ 0xBFFF0000 }
-    ensures code { IfOk result (λ c. IsCodeFor source.now.first source.now.entry source.now.words.now source.now.decoded.now area c.entries c.bytes) }
-    ensures count { IfOk result (λ c. length c.entries ≡ length source.now.words.now) }
-    ensures start { IfOk result (λ c. c.start ≡ slice_index c.entries source.now.entry) }
+    ensures laid { IfOk result (λ c. IsLaidFor program.now area c) }
+    ensures table { IfOk result (λ c. length c.entries ≤ 131072) }
     ensures fits { IfOk result (λ c. 0x81000 + length c.bytes ≤ 0x0A000000) }
 {
-    let found = block_find::Code {
-        first: source.first,
-        entry: source.entry,
-        words: source.words,
+    let words = code_words(alloc, program)?;
+    let decoded = decoded_words(alloc, &words)?;
+    let source = Source {
+        first: first(program),
+        entry: entry_place(program),
+        words: &words,
+        decoded: &decoded,
+        blocks,
     };
-    let leaders = leaders(alloc, &found)?;
-    let order = order(alloc, &leaders)?;
     let start = area + CODE_OFFSET;
-    let entries = entries(alloc, source, &order, start)?;
+    let entries = entries(alloc, &source, start)?;
     let layout = Layout {
         area,
         code: start,
@@ -44,7 +55,7 @@ pub fn lay(alloc: Global, source: &Source<'_>, area: u32) -> Result<Code, NoMemo
         first: source.first,
         entries: &entries,
     };
-    let bytes = code(alloc, source, &order, &layout)?;
+    let bytes = code(alloc, &source, &layout)?;
     let start = entries[source.entry];
     Ok(Code {
         bytes: CodeBytes::from(bytes),

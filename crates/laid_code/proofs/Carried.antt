@@ -1,32 +1,36 @@
 -- The code of a written program carries the blocks of its words.
-use Rattle.std.proofs.Common.{◌≡◌, ℕ, ◌+◌, ◌-◌, ◌%◌, ◌^◌, ◌<◌, ◌≤◌, Bool, true, false, cond, ◌==◌, List, [], ◌∷◌, ◌++◌, length, map, filter, not, get_or, slice_index, slice_index_or, Option, ◌⊎◌, inl, inr, refl, sym, ap, ◌∙◌, subst, arith}
+use Rattle.std.proofs.Common.{◌≡◌, ℕ, zero, suc, ◌+◌, ◌*◌, ◌-◌, ◌%◌, ◌^◌, ◌<◌, ◌≤◌, Bool, true, false, cond, ◌==◌, List, [], ◌∷◌, ◌++◌, length, take, drop, slice_index, slice_index_or, Option, Some, None, ◌⊎◌, inl, inr, refl, sym, ap, ◌∙◌, subst, drop-cons, arith}
 use Rattle.std.proofs.lemmas.Bool.{false≢true, cases_lt, eqb-true}
 use Rattle.std.proofs.lemmas.Bool.Decides.{nat_tests}
-use Rattle.std.proofs.lemmas.List.{append-nil, get_or_default, get_or_past}
-use Rattle.std.specs.List.{range_with_len}
+use Rattle.std.proofs.lemmas.List.{append-nil, get_or_default, get_or_past, length-take, length-drop}
 use Rattle.space.specs.declared.call.End.TheVariants.{Outside}
 use Rattle.space.specs.declared.program.Program.{Program}
 use Rattle.ppc_isa.specs.declared.instr.Instr.{Instr}
 use Rattle.ia_codec.specs.Spelling.{spelling}
 use Rattle.ia_codec.specs.declared.op.Op.TheVariants.{Jmp}
+use Rattle.block_find.specs.Branches.{address_of}
+use Rattle.block_find.specs.Laws.{all_blocks, block_at, IsBlockAt, EachIsBlock}
+use Rattle.block_find.specs.declared.block.Block.{Block}
 use Rattle.runs.specs.Machine.{Ends}
 use Rattle.machines.specs.Memory.{rights_of, code_of}
 use Rattle.machines.specs.Readings.{Fetched, ReadsWords, ReadsOps}
-use Rattle.machines.specs.Guest.{is_code_word, code_word, executes}
-use Rattle.simulation.specs.Setting.{Setting, IsOffCode, JumpsTo}
-use Rattle.simulation.specs.Plan.{BlockAt, Begins}
-use Rattle.code_layout.specs.Blocks.{address_of, in_block, alone, singles, code_order}
+use Rattle.machines.specs.Guest.{behind, is_code_word, code_word, executes}
+use Rattle.symbolic_tiles.proofs.PlaceLaws.{programs_write_held}
+use Rattle.simulation.specs.Setting.{Setting, IsWordAt, IsOffCode, JumpsTo}
+use Rattle.simulation.specs.Plan.{PlanStep, BlockAt, Begins}
+use Rattle.code_layout.specs.Decoded.{IsDecodedAs, decoded_at, IsLegalDecoded}
 use Rattle.code_layout.specs.Places.{no_registers, no_moves, place_of, entry_of, Places, places_in}
-use Rattle.code_layout.specs.Layout.{laid_bytes}
-use Rattle.code_layout.specs.declared.blocks.Laid.{Laid}
+use Rattle.code_layout.specs.Code.{block_items, items_bytes}
+use Rattle.code_layout.specs.Layout.{words_of, items_of, blocks_bytes, BeginsAt}
 use Rattle.laid_code.specs.Bytes.{HasBytes, RunsCode}
-use Rattle.laid_code.specs.Instance.{code_start, Interface, without_registers, setting_of, laid_setting, HasWords, AreDecodedAs, HasCodeFor}
-use Rattle.laid_code.specs.Laws.{IsBlockOrOff, BlocksStand, HoldStands, EntriesAreAddresses}
-use Rattle.laid_code.proofs.Decoding.{first_bytes_at, next_bytes_at, bytes_end_low, jump_leads}
-use Rattle.laid_code.proofs.Laid.{LaidAt, laid_at, Found, leading, behind, find_leader, find_single}
+use Rattle.laid_code.specs.Instance.{code_start, Interface, without_registers, setting_of, laid_setting, HasWords, HasCodeFor}
 use Rattle.laid_code.specs.Items.{ArePlaced}
+use Rattle.laid_code.specs.Laws.{IsBlockOrOff, BlocksStand, HoldStands, EntriesAreAddresses}
+use Rattle.laid_code.specs.Plans.{plan_items}
+use Rattle.laid_code.proofs.Decoding.{first_bytes_at, next_bytes_at, bytes_end_low, jump_leads}
+use Rattle.laid_code.proofs.Laid.{HasBlock, block_stands}
 use Rattle.laid_code.proofs.Plans.{plans_stand}
-use Rattle.laid_code.proofs.Blocks.{BlockFrom, word_block, leader_block}
+use Rattle.laid_code.proofs.Blocks.{steps_of, steps_items, steps_map, steps_count, first_room, steps_few, AreFetched, steps_right}
 
 -- where an edge to a code word leads
 pub entry_at : (first : ℕ) (table : List ℕ) (hold k : ℕ) → k < length table → entry_of first table hold (address_of first k) ≡ slice_index table k
@@ -46,12 +50,18 @@ entry_or_hold first table hold P a off on = by (a == address_of first (place_of 
     by true e = inner (place_of first a) (eqb-true a (address_of first (place_of first a)) e) (cases_lt (place_of first a) (length table))
     by false e = off
 
-module _ (Q : Program) (first entry : ℕ) (words : List ℕ) (decoded : List (Option Instr)) (area : ℕ) (table : List ℕ) (carried : HasCodeFor Q first entry words decoded area table) where
+module _ (Q : Program) (first entry : ℕ) (words : List ℕ) (area : ℕ) (table : List ℕ) (carried : HasCodeFor Q first entry words area table) where
   abbrev targets : ℕ → ℕ
   targets = entry_of first table (code_start area)
 
   abbrev p : Places
   p = places_in area first table
+
+  abbrev decoded : List (Option Instr)
+  decoded = carried.code.decoded
+
+  abbrev blocks : List Block
+  blocks = all_blocks carried.code.blocks
 
   low : (code_of Q).at + length (code_of Q).bytes < 2 ^ 32
   low = let l = carried.low in let a = carried.at in omega (arith, l, a)
@@ -61,7 +71,7 @@ module _ (Q : Program) (first entry : ℕ) (words : List ℕ) (decoded : List (O
   whole = record { before = []; behind = []; cut = sym (append-nil (code_of Q).bytes); begins = let a = carried.at in omega (arith, a) }
 
   abbrev all_bytes : List ℕ
-  all_bytes = laid_bytes decoded p (code_start area + 5) (code_order carried.code.leaders)
+  all_bytes = blocks_bytes decoded p (code_start area + 5) blocks
 
   holding : HasBytes (code_of Q) (code_start area) (spelling (Jmp (2 ^ 32 - 5)) ++ all_bytes)
   holding = subst (HasBytes (code_of Q) (code_start area)) carried.code.laid whole
@@ -69,36 +79,26 @@ module _ (Q : Program) (first entry : ℕ) (words : List ℕ) (decoded : List (O
   hold_low : code_start area + 5 < 2 ^ 32
   hold_low = bytes_end_low (code_of Q) (code_start area) (spelling (Jmp (2 ^ 32 - 5))) low (first_bytes_at (code_of Q) (code_start area) (spelling (Jmp (2 ^ 32 - 5))) all_bytes holding)
 
-  -- all words stand behind it
-  laid : LaidAt decoded p (code_of Q) (code_start area + 5) (code_order carried.code.leaders)
-  laid = laid_at decoded p (code_of Q) (code_start area + 5) (code_order carried.code.leaders) (next_bytes_at (code_of Q) (code_start area) (spelling (Jmp (2 ^ 32 - 5))) all_bytes holding)
+  -- the block that begins at a code word stands where the table says
+  abbrev found : (k : ℕ) → k < length words → BeginsAt first decoded no_moves (area + 0x81000 + 5) blocks (address_of first k) (slice_index table k)
+  found k lt = carried.code.entries k lt
 
-  abbrev single_places : List ℕ
-  single_places = filter (λ place. not (get_or carried.code.leaders place false)) (range_with_len 0 (length carried.code.leaders))
+  abbrev block_of : (k : ℕ) → k < length words → Block
+  block_of k lt = block_at blocks (found k lt).place
 
-  abbrev single_blocks : List Laid
-  single_blocks = singles carried.code.leaders (length carried.code.leaders)
+  stands : (k : ℕ) (lt : k < length words) → HasBlock decoded p (code_of Q) (slice_index table k) (block_of k lt)
+  stands k lt =
+      subst (λ (a : ℕ). HasBlock decoded p (code_of Q) a (block_of k lt)) (sym (found k lt).stands)
+      (block_stands decoded p (code_of Q) (code_start area + 5) blocks (found k lt).place (record { at = 0; words = [] }) (found k lt).within
+      (next_bytes_at (code_of Q) (code_start area) (spelling (Jmp (2 ^ 32 - 5))) all_bytes holding))
 
-  found : (k : ℕ) → k < length decoded → Found decoded p (code_of Q) carried.code.leaders single_blocks (length carried.code.leaders) k (slice_index table k)
-  found k lt = find_leader decoded p (code_of Q) carried.code.leaders single_blocks (length carried.code.leaders) k (slice_index table k) (code_start area + 5) 0 (length carried.code.leaders) (omega arith) laid (carried.code.entries k lt)
-
-  -- every entry lies in the code
-  laid_low : (here : ℕ) (word : Laid) (order : List Laid) → LaidAt decoded p (code_of Q) here (word ∷ order) → here < 2 ^ 32
-  laid_low here word order h = omega (arith, bytes_end_low (code_of Q) here _ low h.0)
-
-  pub entry_low : (k : ℕ) → k < length decoded → slice_index table k < 2 ^ 32
-  entry_low k lt = by (found k lt)
-    where
-      by : Found decoded p (code_of Q) carried.code.leaders single_blocks (length carried.code.leaders) k (slice_index table k) → slice_index table k < 2 ^ 32
-      by (leading more e set h) = laid_low (slice_index table k) (in_block carried.code.leaders k) (map (in_block carried.code.leaders) (range_with_len (k + 1) more) ++ single_blocks) h
-      by (behind here h begins) =
-          let one = find_single decoded p (code_of Q) single_places k (slice_index table k) here h begins in
-          laid_low (slice_index table k) (alone k) one.0 one.1
+  pub entry_low : (k : ℕ) → k < length words → slice_index table k < 2 ^ 32
+  entry_low k lt = omega (arith, bytes_end_low (code_of Q) (slice_index table k) _ low (stands k lt))
 
   bounded : (address : ℕ) → targets address < 2 ^ 32
   bounded address =
       let low : code_start area + 5 < 2 ^ 32 = hold_low in
-      let count : length table ≡ length decoded = carried.count in
+      let count : length table ≡ length words = carried.count in
       entry_or_hold first table (code_start area) (λ t. t < 2 ^ 32) address (omega (arith, low)) (λ k lt e. entry_low k (omega (arith, lt, count)))
 
   module _ (interface : Interface) (reading : ℕ → Option Instr) (ops : List ℕ → Option Fetched) (P : Program) (reads_ops : ReadsOps ops) where
@@ -114,7 +114,7 @@ module _ (Q : Program) (first entry : ℕ) (words : List ℕ) (decoded : List (O
         let rel : 2 ^ 32 - 5 ≡ (code_start area + (2 ^ 32 - (code_start area + 5))) % 2 ^ 32 = omega (arith, low) in
         jump_leads (held_in to) (code_of Q) ops (code_start area) (code_start area) (runs to) (omega (arith, low)) (subst (λ (r : ℕ). HasBytes (code_of Q) (code_start area) (spelling (Jmp r))) rel (first_bytes_at (code_of Q) (code_start area) (spelling (Jmp (2 ^ 32 - 5))) all_bytes holding))
 
-  module _ (live : ℕ → ℕ → Bool) (reading : ℕ → Option Instr) (ops : List ℕ → Option Fetched) (P : Program) (reads_ops : ReadsOps ops) (reads_words : ReadsWords reading) (has : HasWords P first words) (are : AreDecodedAs words decoded) where
+  module _ (each_is_block : EachIsBlock) (live : ℕ → ℕ → Bool) (reading : ℕ → Option Instr) (ops : List ℕ → Option Fetched) (P : Program) (reads_ops : ReadsOps ops) (reads_words : ReadsWords reading) (has : HasWords P first words) where
     abbrev s : Setting
     s = laid_setting live reading ops P Q first area table
 
@@ -123,41 +123,98 @@ module _ (Q : Program) (first entry : ℕ) (words : List ℕ) (decoded : List (O
         let low : code_start area + 5 < 2 ^ 32 = hold_low in
         let code_low = has.low in
         let count = carried.count in
-        let same = are.count in
         record {
           area = omega (arith, low);
           hold = omega (arith, low);
           table = omega (arith, low);
           first = omega (arith, code_low);
-          count = omega (arith, code_low, count, same);
+          count = omega (arith, code_low, count);
           targets = bounded;
         }
 
-    abbrev Block : ℕ → ℕ → ℕ → Type 0
-    Block k here bound = BlockFrom live reading ops P Q first entry words decoded area table reads_words has are k here bound
-
-    block_at : (k : ℕ) → k < length decoded → Block k (slice_index table k) (k + 64)
-    block_at k lt = by (found k lt)
+    -- a word is read as it is decoded
+    read_as : (w : ℕ) (o : Option Instr) → IsDecodedAs w o → reading w ≡ o
+    read_as w (Some i) h = reads_words.only w i h
+    read_as w None h = by_reading (reading w) refl
       where
-        by : Found decoded p (code_of Q) carried.code.leaders single_blocks (length carried.code.leaders) k (slice_index table k) → Block k (slice_index table k) (k + 64)
-        by (leading more e set h) =
-            let count : length carried.code.leaders ≡ length decoded = carried.code.count in
-            leader_block live reading ops P Q first entry words decoded area table reads_words has are carried.code.leaders count carried.code.are_leaders single_blocks k more k (slice_index table k) lt set (e ∙ count) (omega arith) (λ i low high. absurd (omega (arith, low, high))) h
-        by (behind here h begins) =
-            let one = find_single decoded p (code_of Q) single_places k (slice_index table k) here h begins in
-            word_block live reading ops P Q first entry words decoded area table reads_words has are (alone k) one.0 (slice_index table k) (k + 64) lt (omega arith) one.1 (λ inner. absurd (false≢true (sym inner)))
+        by_reading : (o : Option Instr) → reading w ≡ o → reading w ≡ None
+        by_reading (Some i) e = absurd (h i (reads_words.found w i e))
+        by_reading None e = e
 
-    begins : (k : ℕ) → k < length decoded → Begins s (address_of first k)
+    legal_if : (w : ℕ) (o : Option Instr) → IsDecodedAs w o → IsLegalDecoded o
+    legal_if w (Some i) h = h.legal
+    legal_if w None h = tt
+
+    word_at : (k : ℕ) → k < length words → IsWordAt s (address_of first k) (decoded_at decoded k)
+    word_at k lt g at =
+        let read : reading (code_word (code_of P) (address_of first k)) ≡ decoded_at decoded k = ap reading (has.each k lt) ∙ read_as (slice_index words k) (decoded_at decoded k) (carried.code.are_decoded.each k lt) in
+        ap (λ (a : ℕ). cond (is_code_word (code_of P) a) (executes (rights_of P) (reading (code_word (code_of P) a)) g) (Ends Outside)) at
+        ∙ ap (λ (b : Bool). cond b (executes (rights_of P) (reading (code_word (code_of P) (address_of first k))) g) (Ends Outside)) (has.here k lt)
+        ∙ ap (λ (o : Option Instr). executes (rights_of P) o g) read
+
+    -- from each code word on the words stand as they are decoded
+    fetched_from : (n k : ℕ) → k + n ≤ length words → AreFetched s (programs_write_held P) (address_of first k) (take n (drop k decoded))
+    fetched_from zero k le = tt
+    fetched_from (suc n) k le =
+        let lt : k < length words = omega arith in
+        let count : length decoded ≡ length words = carried.code.are_decoded.count in
+        let cut : drop k decoded ≡ decoded_at decoded k ∷ drop (suc k) decoded = drop-cons decoded k None (omega (arith, lt, count)) in
+        let lows : first + 4 * length words < 2 ^ 32 = has.low in
+        let next : address_of first (suc k) ≡ behind (address_of first k) = omega (arith, lows, lt) in
+        subst (λ (xs : List (Option Instr)). AreFetched s (programs_write_held P) (address_of first k) (take (suc n) xs)) (sym cut) (
+          word_at k lt,
+          legal_if (slice_index words k) (decoded_at decoded k) (carried.code.are_decoded.each k lt),
+          subst (λ (a : ℕ). AreFetched s (programs_write_held P) a (take n (drop (suc k) decoded))) next (fetched_from n (suc k) (omega arith)),
+        )
+
+    -- the block that begins at a code word has the words from it on
+    is_block : (k : ℕ) (lt : k < length words) → IsBlockAt first words k (block_of k lt)
+    is_block k lt =
+        let e = each_is_block first entry words carried.code.blocks carried.code.are_blocks (found k lt).place (found k lt).within in
+        let at : (block_of k lt).at ≡ address_of first e.0 = e.1.begins in
+        let here : (block_of k lt).at ≡ address_of first k = (found k lt).begins in
+        let same : e.0 ≡ k = omega (arith, at, here) in
+        subst (λ (j : ℕ). IsBlockAt first words j (block_of k lt)) same e.1
+
+    abbrev block_words : (k : ℕ) → k < length words → List (Option Instr)
+    block_words k lt = take (length (block_of k lt).words) (drop k decoded)
+
+    abbrev steps_at : (k : ℕ) → k < length words → List PlanStep
+    steps_at k lt = steps_of (address_of first k) (block_words k lt)
+
+    same_items : (k : ℕ) (lt : k < length words) → items_of first decoded (block_of k lt) ≡ plan_items (address_of first k) (steps_at k lt)
+    same_items k lt =
+        let at : (block_of k lt).at ≡ address_of first k = (found k lt).begins in
+        let place : place_of first (block_of k lt).at ≡ k = omega (arith, at) in
+        ap (λ (a : ℕ). block_items a (words_of first decoded (block_of k lt))) at
+        ∙ ap (λ (j : ℕ). block_items (address_of first k) (take (length (block_of k lt).words) (drop j decoded))) place
+        ∙ steps_items (address_of first k) (block_words k lt)
+
+    count_is : (k : ℕ) (lt : k < length words) → length (block_words k lt) ≡ length (block_of k lt).words
+    count_is k lt =
+        let within = (is_block k lt).within in
+        let count = carried.code.are_decoded.count in
+        let a = length-take (length (block_of k lt).words) (drop k decoded) in
+        let b = length-drop k decoded in
+        omega (arith, a, b, within, count)
+
+    begins : (k : ℕ) → k < length words → Begins s (address_of first k)
     begins k lt =
-        let b = block_at k lt in
-        let count : length table ≡ length decoded = carried.count in
-        let here : slice_index table k ≡ targets (address_of first k) = sym (entry_at first table (code_start area) k (omega (arith, lt, count))) in
+        let is = is_block k lt in
+        let steps = steps_at k lt in
+        let here : ℕ = slice_index table k in
+        let count : length table ≡ length words = carried.count in
+        let there : here ≡ targets (address_of first k) = sym (entry_at first table (code_start area) k (omega (arith, lt, count))) in
+        let within = is.within in
+        let right = steps_right s (programs_write_held P) (address_of first k) (block_words k lt) (fetched_from (length (block_of k lt).words) k within) in
+        let bytes : HasBytes (code_of Q) here (items_bytes p here (plan_items (address_of first k) steps)) = subst (λ x. HasBytes (code_of Q) here (items_bytes p here x)) (same_items k lt) (stands k lt) in
+        let map_stays = steps_map (address_of first k) (block_words k lt) in
         record {
-          steps = b.steps;
-          stands = subst (λ (a : ℕ). BlockAt s no_registers (address_of first k) a b.steps) here (plans_stand s no_moves (code_of Q) ops no_registers (address_of first k) (slice_index table k) b.steps (runs (without_registers live) reading ops P reads_ops targets) are_placed (λ next. (omega arith, b.map_stays)) b.right b.bytes);
-          in_block = let c = b.count in omega (arith, c);
-          few = b.few;
-          few_first = let f = b.begins_few in omega (arith, f);
+          steps = steps;
+          stands = subst (λ (a : ℕ). BlockAt s no_registers (address_of first k) a steps) there (plans_stand s no_moves (code_of Q) ops no_registers (address_of first k) here steps (runs (without_registers live) reading ops P reads_ops targets) are_placed (λ next. (omega arith, map_stays)) right bytes);
+          in_block = (let count = steps_count (address_of first k) (block_words k lt) in let short = is.short in omega (arith, count, short, count_is k lt));
+          few = steps_few (address_of first k) (block_words k lt);
+          few_first = first_room (address_of first k) (block_words k lt) (let some = is.some in omega (arith, some, count_is k lt));
         }
 
     off_code : (w : ℕ) → is_code_word (code_of P) w ≡ false → IsOffCode s w
@@ -167,9 +224,9 @@ module _ (Q : Program) (first entry : ℕ) (words : List ℕ) (decoded : List (O
 
     to_hold : (w : ℕ) → is_code_word (code_of P) w ≡ false → targets w ≡ code_start area
     to_hold w off =
-        let count : length table ≡ length decoded = carried.count in
+        let count : length table ≡ length words = carried.count in
         entry_or_hold first table (code_start area) (λ t. t ≡ code_start area) w refl
-        (λ k lt e. absurd (false≢true (sym off ∙ ap (λ (a : ℕ). is_code_word (code_of P) a) e ∙ has.here k (let same = are.count in omega (arith, lt, count, same)))))
+        (λ k lt e. absurd (false≢true (sym off ∙ ap (λ (a : ℕ). is_code_word (code_of P) a) e ∙ has.here k (omega (arith, lt, count)))))
 
     pub blocks_at : (w : ℕ) → IsBlockOrOff s w
     blocks_at w = by (is_code_word (code_of P) w) refl
@@ -177,14 +234,14 @@ module _ (Q : Program) (first entry : ℕ) (words : List ℕ) (decoded : List (O
         by : (b : Bool) → is_code_word (code_of P) w ≡ b → IsBlockOrOff s w
         by true on =
             let k = has.only w on in
-            inl (subst (Begins s) (sym k.2) (begins k.0 (let same = are.count in let lt = k.1 in omega (arith, lt, same))))
+            inl (subst (Begins s) (sym k.2) (begins k.0 k.1))
         by false off = inr (off_code w off, to_hold w off)
 
-pub blocks_stand : BlocksStand
-blocks_stand live reading ops P Q first entry words decoded area table reads_words reads_ops has are carried w = blocks_at Q first entry words decoded area table carried live reading ops P reads_ops reads_words has are w
+pub blocks_stand : EachIsBlock → BlocksStand
+blocks_stand each live reading ops P Q first entry words area table reads_words reads_ops has carried w = blocks_at Q first entry words area table carried each live reading ops P reads_ops reads_words has w
 
 pub hold_stands : HoldStands
-hold_stands interface targets reading ops P Q first entry words decoded area table reads_ops carried = hold_jumps Q first entry words decoded area table carried interface reading ops P reads_ops targets
+hold_stands interface targets reading ops P Q first entry words area table reads_ops carried = hold_jumps Q first entry words area table carried interface reading ops P reads_ops targets
 
 pub entries_are_addresses : EntriesAreAddresses
-entries_are_addresses Q first entry words decoded area table carried k lt = entry_low Q first entry words decoded area table carried k (let count = carried.count in omega (arith, lt, count))
+entries_are_addresses Q first entry words area table carried k lt = entry_low Q first entry words area table carried k (let count = carried.count in omega (arith, lt, count))

@@ -5,6 +5,5 @@ pub mod Laid
 pub mod Plans
 pub mod Rows
 pub mod Blocks
-pub mod Cut
 pub mod Carried
 pub mod Table

@@ -1,7 +1,6 @@
 -- What tiles need of the instructions that translation is built for.
-use Rattle.std.proofs.Common.{◌≡◌, ℕ, ◌≤◌, Bool, true, false, [], ◌∷◌, length, Some, refl, ap, ◌∙◌, subst, arith}
+use Rattle.std.proofs.Common.{◌≡◌, ℕ, ◌≤◌, Bool, true, false, List, [], ◌∷◌, All, length, Some, refl, ap, ◌∙◌, subst, arith}
 use Rattle.ppc_isa.specs.Legal.{IsLegal}
-use Rattle.ppc_isa.specs.Map.{IsMap}
 use Rattle.ppc_isa.specs.declared.instr.Instr.{Instr}
 use Rattle.runs.specs.Machine.{Outcome, Goes, Asks, Ends}
 use Rattle.machines.specs.Memory.{Rights}
@@ -12,24 +11,30 @@ use Rattle.symbolic_tiles.specs.Row.{window_of, DoWindow}
 use Rattle.symbolic_tiles.specs.Row.{WritesHeld}
 use Rattle.symbolic_tiles.specs.Flow.{FlowDoesWord}
 use Rattle.symbolic_tiles.specs.Straight.{IsStraight}
-use Rattle.code_layout.proofs.StraightTiles.{tiles_do_rows, tiles_are_short}
-use Rattle.code_layout.proofs.BuiltWords.{straight_word, has_tile}
-use Rattle.base_flow.proofs.Tiles.{flow_tiles_do_rows, flow_tiles_are_marked}
+use Rattle.code_layout.proofs.StraightTiles.{tiles_do_rows, tiles_are_placeable, tiles_are_short}
+use Rattle.code_layout.proofs.BuiltWords.{is_map, straight_word, has_tile}
+use Rattle.code_layout.proofs.BlockItems.{flows_laid}
+use Rattle.base_flow.proofs.Tiles.{flow_tiles_are_laid, flow_tiles_do_rows, flow_tiles_are_marked}
 use Rattle.symbolic_tiles.proofs.Straight.{rows_are_straight, accesses_are_inside}
 use Rattle.simulation.specs.Windows.{rows_of, IsQuiet}
 use Rattle.simulation.specs.Setting.{Setting, IsWordAt}
 use Rattle.simulation.specs.Plan.{IsTile, LeadsTo}
 use Rattle.code_layout.specs.Places.{no_registers}
-use Rattle.code_layout.specs.Code.{word_ops, ops_at}
+use Rattle.code_layout.specs.Code.{word_ops, ops_at, IsLaid, IsPlaceable}
+use Rattle.laid_code.specs.Items.{ArePlaceable}
+use Rattle.ia_codec.specs.declared.op.Op.{Op}
+use Rattle.std.proofs.lemmas.List.Elements.{All-head, All-tail}
 use Rattle.symbolic_tiles.specs.Marks.{AreMarked}
 
-pub is_map : IsMap no_registers
-is_map = record { ebx = tt; esi = tt; edi = tt; ebx_esi = tt; ebx_edi = tt; esi_edi = tt }
+pub each_placeable : (ops : List Op) → All IsPlaceable ops → ArePlaceable ops
+each_placeable [] h = tt
+each_placeable (op ∷ ops) h = (All-head IsPlaceable op ops h, each_placeable ops (All-tail IsPlaceable op ops h))
 
 -- an instruction that is no flow word, with a tile of ops
 pub record IsStraightWord (i : Instr) : Type 0 where
   pub straight : is_flow i ≡ false
   pub few : length (word_ops i no_registers) ≤ 128
+  pub placeable : ArePlaceable (word_ops i no_registers)
   pub does : (area : ℕ) → DoWindow (window_of i) no_registers area (ops_at area (word_ops i no_registers))
 
 -- a flow word, with a tile of items
@@ -37,6 +42,7 @@ pub record IsFlowingWord (i : Instr) : Type 0 where
   pub flow : is_flow i ≡ true
   pub few : (at : ℕ) → length (flow_tile i at no_registers) ≤ 100
   pub marked : (at : ℕ) → AreMarked (flow_tile i at no_registers)
+  pub laid : (at : ℕ) → All IsLaid (flow_tile i at no_registers)
   pub does : FlowDoesWord (Some i) no_registers (λ at. flow_tile i at no_registers)
 
 -- the row of an instruction as the only one of its window
@@ -84,11 +90,13 @@ kind_of i legal = by_flow (is_flow i) refl
     by_flow false e = straight (record {
       straight = e;
       few = (tiles_are_short i no_registers legal (straight_word i e)).0;
+      placeable = each_placeable (word_ops i no_registers) (tiles_are_placeable i no_registers legal (straight_word i e) is_map);
       does = λ area. tiles_do_rows i legal (straight_word i e) no_registers area is_map;
     })
     by_flow true e = flowing (record {
       flow = e;
       few = λ at. let m = flow_tiles_are_marked i no_registers at in omega (arith, m.1);
       marked = λ at. (flow_tiles_are_marked i no_registers at).0;
+      laid = λ at. flows_laid (flow_tile i at no_registers) (flow_tiles_are_laid i no_registers at legal is_map (has_tile i e));
       does = flow_tiles_do_rows i no_registers legal is_map (has_tile i e);
     })

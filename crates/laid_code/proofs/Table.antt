@@ -3,7 +3,7 @@ use Rattle.std.proofs.Common.{◌≡◌, ℕ, zero, suc, ◌+◌, ◌*◌, ◌/�
 use Rattle.std.specs.List.{flat_map}
 use Rattle.byteorder.specs.Endian.{little_bytes}
 use Rattle.machines.specs.Memory.{load}
-use Rattle.code_layout.specs.Blocks.{address_of}
+use Rattle.block_find.specs.Branches.{address_of}
 use Rattle.laid_code.specs.Instance.{code_start}
 use Rattle.laid_code.specs.Laws.{TablesStand}
 use Rattle.laid_code.proofs.Carried.{entry_at, entry_or_hold}

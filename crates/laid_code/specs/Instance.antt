@@ -11,7 +11,6 @@ use Rattle.machines.specs.Guest.{guest_machine}
 use Rattle.machines.specs.Agreement.{without, narrow_machine}
 pub use Rattle.code_words.specs.Words.{HasWords}
 use Rattle.simulation.specs.Setting.{Setting}
-pub use Rattle.code_layout.specs.Decoded.{AreDecodedAs}
 use Rattle.code_layout.specs.Places.{no_registers, entry_of}
 use Rattle.code_layout.specs.Layout.{IsCodeFor}
 
@@ -57,12 +56,12 @@ without_registers live = record { entry_map = λ w. no_registers; live = live }
 abbrev pub laid_setting : (ℕ → ℕ → Bool) → (ℕ → Option Instr) → (List ℕ → Option Fetched) → Program → Program → ℕ → ℕ → List ℕ → Setting
 laid_setting live words ops P Q first area table = setting_of (without_registers live) (entry_of first table (code_start area)) words ops P Q first area table
 
--- the code of Q is that of these words, by this table, and lies below 2^32
-pub record HasCodeFor (Q : Program) (first entry : ℕ) (words : List ℕ) (decoded : List (Option Instr)) (area : ℕ) (table : List ℕ) : Type 0 where
+-- the code of Q is that of these words' blocks, by this table, and lies below 2^32
+pub record HasCodeFor (Q : Program) (first entry : ℕ) (words : List ℕ) (area : ℕ) (table : List ℕ) : Type 0 where
   pub at : (code_of Q).at ≡ code_start area
   pub low : code_start area + length (code_of Q).bytes < 2 ^ 32
-  pub count : length table ≡ length decoded
-  pub code : IsCodeFor first entry words decoded area table (code_of Q).bytes
+  pub count : length table ≡ length words
+  pub code : IsCodeFor first entry words area table (code_of Q).bytes
 
 -- these words stand in the setting's table, which can be read and not written
 pub record HasTableOf (s : Setting) (entries : List ℕ) : Type 0 where

@@ -16,7 +16,7 @@ use Rattle.code_layout.specs.Places.{Moves}
 use Rattle.code_layout.specs.Code.{IsLaid, items_bytes}
 use Rattle.symbolic_tiles.specs.Marks.{AreMarked}
 use Rattle.laid_code.specs.Bytes.{HasBytes, RunsCode}
-use Rattle.laid_code.specs.Instance.{code_start, Interface, setting_of, laid_setting, HasWords, AreDecodedAs, HasCodeFor, HasTableOf}
+use Rattle.laid_code.specs.Instance.{code_start, Interface, setting_of, laid_setting, HasWords, HasCodeFor, HasTableOf}
 use Rattle.laid_code.specs.Items.{labels_of, edges_of, leaps_of, places_of, AreSwitches, ArePlaced}
 use Rattle.laid_code.specs.Plans.{plan_items, last_map, AreRight}
 
@@ -56,14 +56,14 @@ IsBlockOrOff s w = Begins s w ⊎ (IsOffCode s w × (s.target w ≡ s.hold))
 -- The code of the written program carries the block of each code word of P, whatever is live.
 abbrev pub BlocksStand : Type 0
 BlocksStand =
-    (live : ℕ → ℕ → Bool) (reading : ℕ → Option Instr) (ops : List ℕ → Option Fetched) (P Q : Program) (first entry : ℕ) (words : List ℕ) (decoded : List (Option Instr)) (area : ℕ) (table : List ℕ) →
-    ReadsWords reading → ReadsOps ops → HasWords P first words → AreDecodedAs words decoded → HasCodeFor Q first entry words decoded area table → (w : ℕ) → IsBlockOrOff (laid_setting live reading ops P Q first area table) w
+    (live : ℕ → ℕ → Bool) (reading : ℕ → Option Instr) (ops : List ℕ → Option Fetched) (P Q : Program) (first entry : ℕ) (words : List ℕ) (area : ℕ) (table : List ℕ) →
+    ReadsWords reading → ReadsOps ops → HasWords P first words → HasCodeFor Q first entry words area table → (w : ℕ) → IsBlockOrOff (laid_setting live reading ops P Q first area table) w
 
 -- `hold` is a jump to itself, under every interface.
 abbrev pub HoldStands : Type 0
 HoldStands =
-    (interface : Interface) (targets : ℕ → ℕ) (reading : ℕ → Option Instr) (ops : List ℕ → Option Fetched) (P Q : Program) (first entry : ℕ) (words : List ℕ) (decoded : List (Option Instr)) (area : ℕ) (table : List ℕ) →
-    ReadsOps ops → HasCodeFor Q first entry words decoded area table → JumpsTo (setting_of interface targets reading ops P Q first area table) (code_start area) (code_start area)
+    (interface : Interface) (targets : ℕ → ℕ) (reading : ℕ → Option Instr) (ops : List ℕ → Option Fetched) (P Q : Program) (first entry : ℕ) (words : List ℕ) (area : ℕ) (table : List ℕ) →
+    ReadsOps ops → HasCodeFor Q first entry words area table → JumpsTo (setting_of interface targets reading ops P Q first area table) (code_start area) (code_start area)
 
 -- each word of a table is a host address
 abbrev pub AreAddresses : List ℕ → Type 0
@@ -72,8 +72,8 @@ AreAddresses table = (k : ℕ) → k < length table → slice_index table k < 2 
 -- The table of the words' code is made of host addresses.
 abbrev pub EntriesAreAddresses : Type 0
 EntriesAreAddresses =
-    (Q : Program) (first entry : ℕ) (words : List ℕ) (decoded : List (Option Instr)) (area : ℕ) (table : List ℕ) →
-    HasCodeFor Q first entry words decoded area table → AreAddresses table
+    (Q : Program) (first entry : ℕ) (words : List ℕ) (area : ℕ) (table : List ℕ) →
+    HasCodeFor Q first entry words area table → AreAddresses table
 
 -- A table of host addresses that stands in memory leads where its words say, and elsewhere nothing but to `hold`: under
 -- every interface, wherever edges lead.

@@ -2,6 +2,8 @@
 
 ghost use Rattle.laid_code.specs.Laws.{SpellingsStand, JumpsLead, ItemsStand, PlansStand, BlocksStand, HoldStands, EntriesAreAddresses, TablesStand};
 
+use block_find::each_is_block;
+
 /// Where the spelling of an op stands in the code, the op stands.
 pub fn spellings_stand()
     ensures { SpellingsStand }
@@ -28,7 +30,9 @@ pub fn plans_stand()
 /// addresses lead to `hold`. Its block takes no location to be dead.
 pub fn blocks_stand()
     ensures { BlocksStand }
-{}
+{
+    each_is_block();
+}
 
 /// `hold` is a jump to itself.
 pub fn hold_stands()

@@ -18,28 +18,27 @@ use Rattle.machines.specs.Readings.{Fetched, ReadsWords, ReadsOps}
 use Rattle.machines.specs.Guest.{behind, is_code_word, code_word, executes}
 use Rattle.machines.specs.Representation.{IsHomePage}
 use Rattle.symbolic_tiles.specs.Flow.{Fits, flow}
-use Rattle.base_alu.proofs.Tiles.{tiles_do_rows}
+use Rattle.base_alu.proofs.Tiles.{tiles_are_placeable, tiles_do_rows}
 use Rattle.base_flow.proofs.Tiles.{flow_tiles_do_rows}
 use Rattle.symbolic_tiles.proofs.PlaceLaws.{programs_write_held}
-use Rattle.code_layout.specs.Places.{no_registers}
+use Rattle.code_layout.specs.Places.{no_registers, entry_of}
 use Rattle.code_layout.specs.Code.{IsPlaceable, IsLaid}
 use Rattle.std.proofs.lemmas.List.Elements.{All-from_recursion}
-use Rattle.machines.specs.Guest.{behind as next_address}
 use Rattle.symbolic_tiles.specs.declared.flow_op.FlowOp.TheVariants.{Edge, Leap}
 use Rattle.ia_codec.specs.declared.op.Op.{Op}
 use Rattle.machines.specs.Guest.{Guest}
-use Rattle.code_layout.proofs.LaidItems.{items-laid}
+use Rattle.code_layout.proofs.BuiltWords.{is_map}
 use Rattle.simulation.specs.Setting.{IsOffCode}
 use Rattle.simulation.specs.Plan.{PlanStep, IsMove, IsTile, LeadsTo, EdgeAt, DoorAt, Begins}
 use Rattle.simulation.specs.Relation.{MovesKeep}
 use Rattle.laid_code.specs.Items.{ArePlaceable, AreSwitches, IsSwitch}
 use Rattle.laid_code.specs.Plans.{AreRight}
 use Rattle.laid_code.specs.Laws.{PlansStand}
-use Rattle.laid_code.proofs.Blocks.{plain_laid}
-use Rattle.laid_code.proofs.Rows.{is_map, IsStraightWord, straight_tile, straight_leads}
+use Rattle.laid_code.proofs.Carried.{entry_or_hold}
+use Rattle.laid_code.proofs.Rows.{each_placeable, IsStraightWord, straight_tile, straight_leads}
 use Rattle.upkeep.specs.Written.{narrow_rights}
-use Rattle.plan_example.specs.Example.{program, translation, adds, back, in_ebx, in_esi, from_none, from_esi, from_ebx, both_adds, one, behind_one, first_plan, last_plan, second_plan, third_plan, area, hold, first_block, last_block, second_block, third_block, adapter, target}
-use Rattle.plan_example.proofs.Words.{legal_adds, legal_back, word_1, word_2, word_3, word_4, which}
+use Rattle.plan_example.specs.Example.{program, translation, first, entries, entry_map, adds, back, in_ebx, in_esi, from_none, from_esi, from_ebx, both_adds, one, behind_one, first_plan, last_plan, second_plan, third_plan, area, hold, first_block, last_block, second_block, third_block, adapter, target}
+use Rattle.plan_example.proofs.Words.{legal_adds, legal_back, word_1, word_2, word_3, word_4, which, has_words}
 use Rattle.plan_example.proofs.Window.{after, goes_same, adds_five}
 use Rattle.plan_example.proofs.Setting.{s, word_at, off_code, are_placed, runs, first_stands, last_stands, second_stands, third_stands, adapter_stands}
 
@@ -79,11 +78,11 @@ off_target w off = rw (not_at 0x10000 refl, not_at 0x10004 refl, not_at 0x10008 
     not_at : (k : ℕ) → is_code_word (code_of program) k ≡ true → eqb w k ≡ false
     not_at k on = ne_eqb w k (λ e. false≢true (sym off ∙ ap (λ (a : ℕ). is_code_word (code_of program) a) e ∙ on))
 
-straight_adds : (n : ℕ) → n < 2 ^ 16 → IsStraightWord (adds n)
-straight_adds n small = record { straight = refl; few = omega arith; does = λ area. tiles_do_rows (adds n) (legal_adds n small) tt no_registers area is_map }
-
 tile_placeable : (n : ℕ) → n < 2 ^ 16 → ArePlaceable (alu_tile (adds n) no_registers)
-tile_placeable n small = plain_laid (alu_tile (adds n) no_registers) (Edge (next_address 0) ∷ []) (items-laid (Some (adds n)) 0 true _ (legal_adds n small) refl)
+tile_placeable n small = each_placeable (alu_tile (adds n) no_registers) (tiles_are_placeable (adds n) no_registers (legal_adds n small) tt is_map)
+
+straight_adds : (n : ℕ) → n < 2 ^ 16 → IsStraightWord (adds n)
+straight_adds n small = record { straight = refl; few = omega arith; placeable = tile_placeable n small; does = λ area. tiles_do_rows (adds n) (legal_adds n small) tt no_registers area is_map }
 
 module _ (reading : ℕ → Option Instr) (ops : List ℕ → Option Fetched) (reads_words : ReadsWords reading) (reads_ops : ReadsOps ops) (moves : MovesKeep) (plans : PlansStand) (page : IsHomePage area (rights_of program) (narrow_rights translation)) where
   -- the moves of r3
@@ -215,8 +214,28 @@ module _ (reading : ℕ → Option Instr) (ops : List ℕ → Option Fetched) (r
       by true e = inl (on_code (which w e))
       by false e = inr (off_code reading ops w e, off_target w e)
 
+  -- where the table leads
+  abbrev door : ℕ → ℕ
+  door w = cond (eqb w 0x1000C) adapter (target w)
+
+  door_is : (w : ℕ) → entry_of first entries hold w ≡ door w
+  door_is w = by (is_code_word (code_of program) w) refl
+    where
+      on_code : (w ≡ 0x10000) ⊎ (w ≡ 0x10004) ⊎ (w ≡ 0x10008) ⊎ (w ≡ 0x1000C) → entry_of first entries hold w ≡ door w
+      on_code (inl e) = subst (λ (a : ℕ). entry_of first entries hold a ≡ door a) (sym e) refl
+      on_code (inr (inl e)) = subst (λ (a : ℕ). entry_of first entries hold a ≡ door a) (sym e) refl
+      on_code (inr (inr (inl e))) = subst (λ (a : ℕ). entry_of first entries hold a ≡ door a) (sym e) refl
+      on_code (inr (inr (inr e))) = subst (λ (a : ℕ). entry_of first entries hold a ≡ door a) (sym e) refl
+
+      by : (b : Bool) → is_code_word (code_of program) w ≡ b → entry_of first entries hold w ≡ door w
+      by true on = on_code (which w on)
+      by false off =
+          let to_hold : entry_of first entries hold w ≡ hold = entry_or_hold first entries hold (λ (d : ℕ). d ≡ hold) w refl (λ k lt e. absurd (false≢true (sym off ∙ ap (λ (a : ℕ). is_code_word (code_of program) a) e ∙ has_words.here k lt))) in
+          let other : eqb w 0x1000C ≡ false = ne_eqb w 0x1000C (λ e. false≢true (sym off ∙ ap (λ (a : ℕ). is_code_word (code_of program) a) e)) in
+          to_hold ∙ sym (off_target w off) ∙ sym (ap (λ (b : Bool). cond b adapter (target w)) other)
+
   pub doors_at : (w : ℕ) → DoorAt (s reading ops) w
-  doors_at w = by_test (eqb w 0x1000C) refl
+  doors_at w = subst (λ (d : ℕ). ((d ≡ target w) × (entry_map w ≡ no_registers)) ⊎ EdgeAt (s reading ops) no_registers w d) (sym (door_is w)) (by_test (eqb w 0x1000C) refl)
     where
       by_test : (b : Bool) → eqb w 0x1000C ≡ b → ((cond b adapter (target w) ≡ target w) × (cond b in_ebx no_registers ≡ no_registers)) ⊎ EdgeAt (s reading ops) no_registers w (cond b adapter (target w))
       by_test true e = inr (subst (λ k. EdgeAt (s reading ops) no_registers k adapter) (sym (eqb-true w 0x1000C e)) (plans (s reading ops) from_none (code_of translation) ops no_registers 0x1000C adapter [] (runs reading ops reads_ops) (are_placed reading ops) none_switches tt (adapter_stands reading ops reads_ops)))

@@ -7,19 +7,18 @@ use Rattle.ppc_isa.specs.Legal.{IsWordOf}
 use Rattle.ia_codec.specs.Spelling.{spelling}
 use Rattle.ia_codec.specs.declared.op.Op.TheVariants.{Jmp}
 use Rattle.runs.specs.Machine.{Ends}
-use Rattle.machines.specs.Memory.{rights_of, code_of, first_bytes}
+use Rattle.machines.specs.Memory.{rights_of, code_of}
 use Rattle.machines.specs.Readings.{Fetched, ReadsWords, ReadsOps}
-use Rattle.machines.specs.Guest.{guest_machine, is_code_word, code_word, executes}
-use Rattle.machines.specs.Agreement.{narrow_machine}
+use Rattle.machines.specs.Guest.{is_code_word, code_word, executes}
 use Rattle.code_layout.specs.Code.{items_length}
 use Rattle.simulation.specs.Setting.{Setting, IsWordAt, IsOffCode, JumpsTo}
 use Rattle.laid_code.specs.Bytes.{HasBytes, RunsCode}
+use Rattle.laid_code.specs.Instance.{setting_of}
 use Rattle.laid_code.specs.Items.{ArePlaced}
 use Rattle.laid_code.specs.Plans.{plan_items}
 use Rattle.laid_code.proofs.Decoding.{first_bytes_at, next_bytes_at, jump_leads}
 use Rattle.laid_code.proofs.Lengths.{bytes_length}
-use Rattle.upkeep.specs.Written.{narrow_rights}
-use Rattle.plan_example.specs.Example.{program, translation, entry_map, from_none, from_esi, from_ebx, area, hold, target, door, places, block, first_block, last_block, second_block, third_block, adapter, first_plan, last_plan, second_plan, third_plan, code}
+use Rattle.plan_example.specs.Example.{program, translation, first, interface, from_none, from_esi, from_ebx, area, hold, entries, target, places, block, first_block, last_block, second_block, third_block, adapter, first_plan, last_plan, second_plan, third_plan, code}
 
 -- how many bytes the blocks have
 first_length : length (block from_esi 0x10000 first_block first_plan) ≡ 47
@@ -72,22 +71,7 @@ code_length =
 
 module _ (reading : ℕ → Option Instr) (ops : List ℕ → Option Fetched) where
   abbrev pub s : Setting
-  s = record {
-    guest = rights_of program;
-    host = narrow_rights translation;
-    area = area;
-    image = first_bytes translation.segments;
-    guest_step = guest_machine reading program;
-    host_step = narrow_machine ops translation;
-    hold = hold;
-    entry_map = entry_map;
-    target = target;
-    door = door;
-    first = 0x10000;
-    count = 4;
-    table = area + 0x1000;
-    live = λ w x. true;
-  }
+  s = setting_of interface target reading ops program translation first area entries
 
   -- a word at an address of the code
   pub word_at : ReadsWords reading → (w n : ℕ) (i : Instr) → is_code_word (code_of program) w ≡ true → code_word (code_of program) w ≡ n → IsWordOf n i → IsWordAt s w (Some i)

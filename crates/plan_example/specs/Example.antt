@@ -21,6 +21,7 @@ use Rattle.code_layout.specs.Places.{no_registers, Moves, Places}
 use Rattle.code_layout.specs.Code.{items_bytes}
 use Rattle.simulation.specs.Windows.{rows_of}
 use Rattle.simulation.specs.Plan.{PlanStep, Move, Tile, FlowTile}
+use Rattle.laid_code.specs.Instance.{Interface}
 use Rattle.laid_code.specs.Plans.{plan_items}
 use Rattle.upkeep.specs.Written.{written_segments}
 
@@ -33,6 +34,9 @@ adds n = Immediate Addi 3 3 n
 
 abbrev pub back : Instr
 back = Branch 0xFFFFFD false false
+
+abbrev pub words : List ℕ
+words = 0x38630001 ∷ 0x38630002 ∷ 0x38630003 ∷ 0x4BFFFFF4 ∷ []
 
 abbrev pub word_bytes : List ℕ
 word_bytes = 0x38 ∷ 0x63 ∷ 0 ∷ 1 ∷ 0x38 ∷ 0x63 ∷ 0 ∷ 2 ∷ 0x38 ∷ 0x63 ∷ 0 ∷ 3 ∷ 0x4B ∷ 0xFF ∷ 0xFF ∷ 0xF4 ∷ []
@@ -55,6 +59,10 @@ in_esi = record { ebx = None; esi = Some 3; edi = None }
 -- The blocks of the first three words begin with no GPR in a register, that of the last with r3 in ebx.
 abbrev pub entry_map : ℕ → Map
 entry_map w = cond (eqb w 0x1000C) in_ebx no_registers
+
+-- so they take for granted, and that every location is live
+abbrev pub interface : Interface
+interface = record { entry_map = entry_map; live = λ w x. true }
 
 -- the moves to the map under which a block begins: from each of the three maps
 abbrev pub from_none : ℕ → Moves
@@ -121,12 +129,9 @@ third_block = hold + 86
 abbrev pub adapter : ℕ
 adapter = hold + 115
 
--- where edges lead, and where the table leads
+-- where edges lead
 abbrev pub target : ℕ → ℕ
 target w = cond (eqb w 0x10000) first_block (cond (eqb w 0x10004) second_block (cond (eqb w 0x10008) third_block (cond (eqb w 0x1000C) last_block hold)))
-
-abbrev pub door : ℕ → ℕ
-door w = cond (eqb w 0x1000C) adapter (target w)
 
 abbrev pub places : (ℕ → Moves) → Places
 places switch = record { area = area; hold = hold; table = area + 0x1000; first = first; count = 4; targets = target; switch = switch }

@@ -3,23 +3,19 @@
 ghost use Rattle.machines.specs.Agreement.{AgreesWith};
 ghost use Rattle.plan_example.specs.Example.{program, translation};
 
-use laid_code::{plans_stand, spellings_stand};
-use machines::agrees_if_narrowly;
-use simulation::{agrees, moves_keep};
-use upkeep::{all_live_is_enough, has_home, host_keeps_unwritten, starts};
+use laid_code::plans_stand;
+use simulation::moves_keep;
+use upkeep::{all_live_is_enough, has_home, starts};
 
 /// A program of four words agrees with its translation by two blocks and two single words: with a move
 /// inside a block, a window of two words, a switch on an edge, and an adapter to which the table leads.
 pub fn plans_agree()
     ensures { AgreesWith program translation }
 {
-    agrees();
-    agrees_if_narrowly();
+    agreement::plans_agree();
     moves_keep();
     plans_stand();
-    spellings_stand();
     has_home();
-    host_keeps_unwritten();
     all_live_is_enough();
     starts();
 }

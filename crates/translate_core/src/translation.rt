@@ -7,8 +7,8 @@ ghost use Rattle.machines.specs.Files.{Agrees};
 ghost use Rattle.agreement.specs.Written.{Carries};
 
 use agreement::carrying_agrees;
-use code_layout::{Source, decoded_words, lay};
-use code_words::{code_words, entry_place, first};
+use block_find::blocks;
+use code_layout::lay;
 use elf_emit::file;
 use elf_load::host_area;
 use space::{Bytes, Program};
@@ -36,16 +36,9 @@ pub fn translate(alloc: Global, program: &Program) -> Result<Output, NoMemory>
     ensures agrees { IfOk result (λ o. Agrees program.now o.file) }
 {
     carrying_agrees();
-    let words = code_words(alloc, program)?;
-    let decoded = decoded_words(alloc, &words)?;
-    let source = Source {
-        first: first(program),
-        entry: entry_place(program),
-        words: &words,
-        decoded: &decoded,
-    };
+    let blocks = blocks(alloc, program)?;
     let area = host_area(program);
-    let code = lay(alloc, &source, area)?;
+    let code = lay(alloc, program, &blocks, area)?;
     let bytes = file(alloc, program, &code, area)?;
     Ok(Output {
         file: file_bytes(bytes),

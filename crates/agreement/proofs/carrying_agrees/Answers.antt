@@ -6,37 +6,37 @@ use Rattle.branch_table.specs.declared.code.Code.{Code}
 use Rattle.space.specs.declared.program.Kind.TheVariants.{Ia32}
 use Rattle.space.specs.declared.program.Program.{Program}
 use Rattle.elf_load.specs.Area.{IsArea}
-use Rattle.elf_emit.specs.Translation.{translated}
 use Rattle.code_layout.specs.Places.{entry_of}
-use Rattle.code_layout.specs.Layout.{IsCodeFor}
+use Rattle.code_layout.specs.Layout.{IsCodeFor, IsLaidFor}
 use Rattle.code_words.specs.Words.{first_of}
 use Rattle.laid_code.specs.Instance.{code_start, HasCodeFor}
 use Rattle.laid_code.proofs.Carried.{entry_at}
 use Rattle.upkeep.specs.Written.{IsWritten, IsInPlace}
-use Rattle.agreement.specs.Written.{IsLaidFor, plain_interface}
+use Rattle.elf_emit.specs.Translation.{FitsArea, translated}
+use Rattle.agreement.specs.Written.{plain_interface}
 use Rattle.agreement.proofs.carrying_agrees.Goals as goal
 
 abbrev table_of : Code → List ℕ
 table_of code = flat_map (little_bytes 4) code.entries
 
-is_written : (P : Program) (area : ℕ) (code : Code) → IsLaidFor P area code → IsWritten P area (table_of code) code.bytes (translated P code area)
+is_written : (P : Program) (area : ℕ) (code : Code) → FitsArea code → IsWritten P area (table_of code) code.bytes (translated P code area)
 is_written P area code x =
     let count : length (table_of code) ≡ 4 * length code.entries = length_of_table code.entries in
-    let rooms = x.fits.table in
-    let fits = x.fits.bytes in
+    let rooms = x.table in
+    let fits = x.bytes in
     record { segments = refl; place = refl; table_fits = omega (arith, rooms, count); code_fits = omega (arith, fits) }
 
-has_code : (P : Program) (area : ℕ) (code : Code) (x : IsLaidFor P area code) → IsArea P.segments area → IsInPlace P area (table_of code) code.bytes (translated P code area) → HasCodeFor (translated P code area) (first_of P) x.entry x.words x.decoded area code.entries
-has_code P area code x free place =
+has_code : (P : Program) (area : ℕ) (code : Code) (x : IsLaidFor P area code) → FitsArea code → IsArea P.segments area → IsInPlace P area (table_of code) code.bytes (translated P code area) → HasCodeFor (translated P code area) (first_of P) x.entry x.words area code.entries
+has_code P area code x room free place =
     let is = place.code_is in
     let high = free.high in
-    let fits = x.fits.bytes in
+    let fits = room.bytes in
     let low : code_start area + length code.bytes < 2 ^ 32 = omega (arith, high, fits) in
     record {
       at = ap (λ c. c.at) is;
       low = subst (λ c. code_start area + length c.bytes < 2 ^ 32) (sym is) low;
-      count = x.count ∙ sym x.are_decoded.count;
-      code = subst (λ c. IsCodeFor (first_of P) x.entry x.words x.decoded area code.entries c.bytes) (sym is) x.blocks;
+      count = x.count;
+      code = subst (λ c. IsCodeFor (first_of P) x.entry x.words area code.entries c.bytes) (sym is) x.blocks;
     }
 
 -- the run of the file begins where the table leads at the program's first word
@@ -54,9 +54,9 @@ returns-clause-plain c = λ P file bytes x.
     let first : ℕ = first_of P in
     let Q : Program = translated P code area in
     let l = x.laid in
-    let written = is_written P area code l in
+    let written = is_written P area code x.fits in
     let place = c.has_home.ensures P Q area (table_of code) code.bytes x.in_area.area written in
-    let carried = has_code P area code l x.in_area.area place in
+    let carried = has_code P area code l x.fits x.in_area.area place in
     let targets : ℕ → ℕ = entry_of first code.entries (code_start area) in
     record {
       area = area;
@@ -69,13 +69,13 @@ returns-clause-plain c = λ P file bytes x.
       bytes = c.loaded_has_bytes.ensures Ia32 file Q bytes x.loaded;
       has = l.has;
       count = l.count;
-      low = c.entries_are_addresses.ensures Q first l.entry l.words l.decoded area code.entries carried;
+      low = c.entries_are_addresses.ensures Q first l.entry l.words area code.entries carried;
       start = starts_there P area code l;
       plans = λ reading ops reads_words reads_ops. record {
         live = c.all_live_is_enough.ensures _ (λ w y. refl);
-        blocks = c.blocks_stand.ensures (λ w y. true) reading ops P Q first l.entry l.words l.decoded area code.entries reads_words reads_ops l.has l.are_decoded carried;
+        blocks = c.blocks_stand.ensures (λ w y. true) reading ops P Q first l.entry l.words area code.entries reads_words reads_ops l.has carried;
         doors = λ w. inl (refl, refl);
-        holds = c.hold_stands.ensures plain_interface targets reading ops P Q first l.entry l.words l.decoded area code.entries reads_ops carried;
+        holds = c.hold_stands.ensures plain_interface targets reading ops P Q first l.entry l.words area code.entries reads_ops carried;
       };
     }
 

@@ -1,24 +1,61 @@
-use Rattle.std.proofs.Common.{refl, ℕ, ◌+◌, false, get_or, arith, ◌∙◌, sym, subst, vec_len}
-use Rattle.std.proofs.lemmas.Grind.{common_steps}
-use Rattle.code_layout.specs.Places.{Places}
+use Rattle.std.proofs.Common.{◌≡◌, ◌<◌, ◌≤◌, ◌+◌, ◌*◌, List, ◌∙◌, length, ap, vec_len, rules, arith}
+use Rattle.block_find.specs.Laws.{all_blocks, block_at, word_count}
+use Rattle.block_find.specs.declared.block.Block.{Block}
+use Rattle.symbolic_tiles.specs.declared.flow_op.FlowOp.{FlowOp}
+use Rattle.code_layout.specs.Places.{no_moves, Places}
 use Rattle.code_layout.specs.PlacesOf.{places_of}
-use Rattle.code_layout.specs.Layout.{code_bytes}
-use Rattle.code_layout.specs.declared.blocks.Laid.{Laid}
-use Rattle.code_layout.proofs.Laid.{AreItemsOf, items-at, laid-more, laid-all}
+use Rattle.code_layout.specs.Code.{items_length}
+use Rattle.code_layout.specs.Layout.{items_of, code_bytes}
+use Rattle.code_layout.proofs.Laid.{laid_more, laid_all}
+use Rattle.code_layout.proofs.Blocks.{nowhere, few_blocks, few_taken, block_is, words_more, items_are}
 use Rattle.code_layout.proofs.layout.code.Goals as goal
 
-pub loop-laid-preserved : goal.loop-laid-preserved
-loop-laid-preserved c =
-    let d : Laid = record { place = 0; begins = false; ends = false } in
-    let h = items-at c.args.source.now.first c.args.source.now.decoded.now (get_or c.args.order.now c.loop-laid.laid-index d) _ c.in_ok-items.items.items c.address_of-here.result c.address_of-here.ensures refl c.in_ok-items.ensures.items in
+pub count-block-end-requires : goal.count-block-end-requires
+count-block-end-requires c =
+    let s = c.args.source.now in
+    few_blocks s.first s.entry s.words.now s.blocks.now c.requires.blocks c.each_is_block.ensures c.have_few_words.ensures (search rules)
+
+pub put-requires-clause-room : goal.put-requires-clause-room
+put-requires-clause-room c =
+    let s = c.args.source.now in
+    let few = few_taken s.first s.entry s.words.now s.blocks.now c.requires.blocks c.each_is_block.ensures c.have_few_words.ensures (search rules) c.loop-block.block in
+    let bound = c.loop-block.invariant.bound in
+    let items = c.in_ok-items.ensures.few in
+    let same : length c.deref.result.now ≡ length c.in_ok-items.items.items = ap length c.deref.ensures.value in
+    let room = c.requires.room in
+    omega (arith, few, bound, items, same, room)
+
+pub loop-block-preserved : goal.loop-block-preserved
+loop-block-preserved c =
+    let s = c.args.source.now in
+    let all : List Block = all_blocks s.blocks.now in
     let p : Places = places_of c.args.layout.now in
+    let block : Block = block_at all c.loop-block.block in
+    let t = c.loop-block-test.true in
+    let end = c.count-block-end.ensures in
+    let lt : c.loop-block.block < length all = omega (arith, t, end) in
+    let its : List FlowOp = c.deref.result.now in
+    let are : its ≡ items_of s.first s.decoded.now block = items_are s.first c.at.result.now.at s.decoded.now c.words_of.result.now block its (search rules) c.words_of.ensures.words (c.deref.ensures.value ∙ c.in_ok-items.ensures.items) in
+    let some = (block_is s.first s.entry s.words.now s.blocks.now c.requires.blocks c.each_is_block.ensures c.loop-block.block lt).1.some in
+    let long : items_length no_moves its ≤ 631 * length c.words_of.result.now + 5 = (search rules) in
+    let count : length c.words_of.result.now ≡ word_count block = c.words_of.ensures.count in
     record {
-      bytes = laid-more c.args.source.now.decoded.now p c.args.layout.now.code (vec_len c.loop-laid.code) (vec_len c.put.new.code) c.loop-laid.laid-index c.args.order.now d c.deref.result.now c.loop-laid.code.items c.put.new.code.items (code_bytes c.args.source.now.decoded.now p c.args.order.now) c.loop-laid-test.true
-          (subst (λ (first : ℕ). AreItemsOf first c.args.source.now.decoded.now (get_or c.args.order.now c.loop-laid.laid-index d) c.deref.result.now) (sym c.requires.first) (c.deref.ensures.value ∙ h)) c.in_ok-put.ensures.bytes c.in_ok-put.ensures.length c.loop-laid.invariant.bytes;
-      bound = grind (arith, common_steps);
+      bytes = laid_more s.decoded.now p c.args.layout.now.code (vec_len c.loop-block.code) (vec_len c.put.new.code) c.loop-block.block all nowhere its c.loop-block.code.items c.put.new.code.items (code_bytes s.decoded.now p all) lt (search rules) c.in_ok-put.ensures.bytes c.in_ok-put.ensures.length c.loop-block.invariant.bytes;
+      bound = (let bound = c.loop-block.invariant.bound in let more = words_more c.loop-block.block all lt in let put = c.in_ok-put.ensures.length in omega (arith, bound, more, put, long, count, some));
     }
 
 pub returns-clause-bytes : goal.returns-clause-bytes
 returns-clause-bytes c =
+    let s = c.args.source.now in
+    let all : List Block = all_blocks s.blocks.now in
     let p : Places = places_of c.args.layout.now in
-    laid-all c.args.source.now.decoded.now p (c.args.layout.now.code + vec_len c.loop-laid.code) c.loop-laid.laid-index c.args.order.now c.loop-laid.code.items (code_bytes c.args.source.now.decoded.now p c.args.order.now) c.loop-laid-test.false c.loop-laid.invariant.bytes
+    let f = c.loop-block-test.false in
+    let end = c.count-block-end.ensures in
+    laid_all s.decoded.now p (c.args.layout.now.code + vec_len c.loop-block.code) c.loop-block.block all c.loop-block.code.items (code_bytes s.decoded.now p all) (omega (arith, f, end)) c.loop-block.invariant.bytes
+
+pub returns-clause-bound : goal.returns-clause-bound
+returns-clause-bound c =
+    let s = c.args.source.now in
+    let few = few_taken s.first s.entry s.words.now s.blocks.now c.requires.blocks c.each_is_block.ensures c.have_few_words.ensures (search rules) c.loop-block.block in
+    let bound = c.loop-block.invariant.bound in
+    omega (arith, few, bound)

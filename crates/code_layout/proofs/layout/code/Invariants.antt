@@ -1,10 +1,12 @@
-use Rattle.std.proofs.Common.{◌+◌, ◌*◌, ◌≤◌, ◌++◌, ◌≡◌, drop, vec_len}
+use Rattle.std.proofs.Common.{◌+◌, ◌*◌, ◌≤◌, ◌++◌, ◌≡◌, take, drop, vec_len}
+use Rattle.std.specs.List.{sum_by}
+use Rattle.block_find.specs.Laws.{all_blocks, word_count}
 use Rattle.code_layout.specs.PlacesOf.{places_of}
-use Rattle.code_layout.specs.Layout.{laid_bytes, code_bytes}
+use Rattle.code_layout.specs.Layout.{blocks_bytes, code_bytes}
 use Rattle.code_layout.proofs.layout.code.Given as goal
 
-abbrev pub invariant-loop-laid : goal.invariant-loop-laid
-invariant-loop-laid l = record {
-  bytes : l.code.items ++ laid_bytes l.source.decoded.now (places_of l.layout) (l.layout.code + vec_len l.code) (drop l.laid-index l.order) ≡ code_bytes l.source.decoded.now (places_of l.layout) l.order;
-  bound : vec_len l.code ≤ 12 + 636 * l.laid-index;
+abbrev pub invariant-loop-block : goal.invariant-loop-block
+invariant-loop-block l = record {
+  bytes : l.code.items ++ blocks_bytes l.source.decoded.now (places_of l.layout) (l.layout.code + vec_len l.code) (drop l.block (all_blocks l.source.blocks.now)) ≡ code_bytes l.source.decoded.now (places_of l.layout) (all_blocks l.source.blocks.now);
+  bound : vec_len l.code ≤ 12 + 636 * sum_by word_count (take l.block (all_blocks l.source.blocks.now));
 }

@@ -1,28 +1,58 @@
-use Rattle.std.proofs.Common.{refl, rules, ◌+◌, ◌∙◌, arith, false, get_or, ap}
-use Rattle.std.proofs.lemmas.Grind.{common_steps}
+use Rattle.std.proofs.Common.{◌≡◌, ◌<◌, ◌≤◌, ◌+◌, ◌*◌, List, ◌∙◌, length, ap, rules, arith}
+use Rattle.block_find.specs.Laws.{all_blocks, block_at, word_count}
+use Rattle.block_find.specs.declared.block.Block.{Block}
+use Rattle.symbolic_tiles.specs.declared.flow_op.FlowOp.{FlowOp}
 use Rattle.code_layout.specs.Places.{no_moves}
 use Rattle.code_layout.specs.Code.{items_length}
-use Rattle.code_layout.specs.declared.blocks.Laid.{Laid}
-use Rattle.code_layout.proofs.Laid.{items-at}
-use Rattle.code_layout.proofs.Beginning.{sought-more, sought-all, keeps-set, keeps-all}
+use Rattle.code_layout.specs.Layout.{items_of, block_length, stands_at}
+use Rattle.code_layout.proofs.Blocks.{few_blocks, few_words, block_is, words_more, stands_more, items_are, each_more, each_begins}
 use Rattle.code_layout.proofs.layout.entries.Goals as goal
-use Rattle.code_layout.proofs.layout.entries.Goals.{then-laid, else-laid}
 
-pub loop-laid-preserved : goal.loop-laid-preserved
-loop-laid-preserved c =
-    let d : Laid = record { place = 0; begins = false; ends = false } in
-    let h = items-at c.args.source.now.first c.args.source.now.decoded.now (get_or c.args.order.now c.loop-laid.laid-index d) _ c.in_ok-word_items.field-0.items c.address_of-here.result c.address_of-here.ensures refl c.in_ok-word_items.ensures.items in
+pub count-block-end-requires : goal.count-block-end-requires
+count-block-end-requires c =
+    let s = c.args.source.now in
+    few_blocks s.first s.entry s.words.now s.blocks.now c.requires.blocks c.each_is_block.ensures c.have_few_words.ensures (search rules)
+
+pub overflow_add-at-in-loop-block : goal.overflow_add-at-in-loop-block
+overflow_add-at-in-loop-block c =
+    let s = c.args.source.now in
+    let all : List Block = all_blocks s.blocks.now in
+    let block : Block = block_at all c.loop-block.block in
+    let t = c.loop-block-test.true in
+    let end = c.count-block-end.ensures in
+    let lt : c.loop-block.block < length all = omega (arith, t, end) in
+    let some = (block_is s.first s.entry s.words.now s.blocks.now c.requires.blocks c.each_is_block.ensures c.loop-block.block lt).1.some in
+    let few = few_words s.first s.entry s.words.now s.blocks.now c.requires.blocks c.each_is_block.ensures c.have_few_words.ensures (search rules) c.loop-block.block lt in
+    let long : c.length-at.result ≤ 631 * length c.words_of.result.now + 5 = (search rules) in
+    let count : length c.words_of.result.now ≡ word_count block = c.words_of.ensures.count in
+    let here = c.loop-block.invariant.room in
+    let room = c.requires.room in
+    omega (arith, some, few, long, count, here, room)
+
+pub loop-block-preserved : goal.loop-block-preserved
+loop-block-preserved c =
+    let s = c.args.source.now in
+    let all : List Block = all_blocks s.blocks.now in
+    let block : Block = block_at all c.loop-block.block in
+    let t = c.loop-block-test.true in
+    let end = c.count-block-end.ensures in
+    let lt : c.loop-block.block < length all = omega (arith, t, end) in
+    let its : List FlowOp = c.deref.result.now in
+    let are : its ≡ items_of s.first s.decoded.now block = items_are s.first c.at.result.now.at s.decoded.now c.words_of.result.now block its (search rules) c.words_of.ensures.words (c.deref.ensures.value ∙ c.in_ok-items.ensures.items) in
+    let some = (block_is s.first s.entry s.words.now s.blocks.now c.requires.blocks c.each_is_block.ensures c.loop-block.block lt).1.some in
+    let long : c.length-at.result ≤ 631 * length c.words_of.result.now + 5 = (search rules) in
+    let count : length c.words_of.result.now ≡ word_count block = c.words_of.ensures.count in
+    let is : c.length-at.result ≡ block_length s.first s.decoded.now no_moves block = c.length-at.ensures.value ∙ ap (items_length no_moves) are in
     record {
       count = search rules;
-      sought = λ k lt. sought-more c.args.source.now.first c.args.source.now.decoded.now (c.args.code + 5) c.loop-laid.at (c.loop-laid.at + c.length.result) c.loop-laid.laid-index c.args.order.now d c.in_ok-word_items.field-0.items c.loop-laid.entries.items c.if-laid.entries.items k c.loop-laid-test.true h
-          (ap (λ n. c.loop-laid.at + n) (c.length.ensures.value ∙ ap (items_length no_moves) c.deref.ensures.value))
-          (elim c.if-laid.branch [
-            | then-laid w ↦ keeps-set _ c.loop-laid.at c.loop-laid.entries.items c.if-laid.entries.items k w.if-laid.true (search rules) (search rules)
-            | else-laid w ↦ keeps-all _ c.loop-laid.at c.loop-laid.entries.items c.if-laid.entries.items k w.if-laid.false (search rules)
-          ])
-          (c.loop-laid.invariant.sought k lt);
-      room = grind (arith, common_steps);
+      here = (let old = c.loop-block.invariant.here in let more = stands_more s.first s.decoded.now no_moves (c.args.code + 5) c.loop-block.block all lt in omega (arith, old, more, is));
+      each = each_more s.first s.entry s.words.now s.blocks.now c.requires.blocks c.each_is_block.ensures c.each_begins_one.ensures (stands_at s.first s.decoded.now no_moves (c.args.code + 5) all) c.loop-block.entries.items c.place.result c.loop-block.at c.loop-block.block lt (search rules) c.place.ensures.place c.loop-block.invariant.here c.loop-block.invariant.each;
+      room = (let here = c.loop-block.invariant.room in let more = words_more c.loop-block.block all lt in omega (arith, here, more, long, count, some));
     }
 
 pub returns-clause-each : goal.returns-clause-each
-returns-clause-each c = λ k lt. sought-all c.args.source.now.first c.args.source.now.decoded.now (c.args.code + 5) c.loop-laid.at c.loop-laid.laid-index c.args.order.now c.loop-laid.entries.items k c.loop-laid-test.false (c.loop-laid.invariant.sought k lt)
+returns-clause-each c =
+    let s = c.args.source.now in
+    let f = c.loop-block-test.false in
+    let end = c.count-block-end.ensures in
+    each_begins s.first s.entry s.words.now s.blocks.now c.requires.blocks c.each_is_block.ensures c.each_begins_one.ensures s.decoded.now (c.args.code + 5) c.loop-block.entries.items (λ i lt. c.loop-block.invariant.each i (omega (arith, lt, f, end)))

@@ -1,10 +1,14 @@
-use Rattle.std.proofs.Common.{◌≡◌, ◌+◌, ◌*◌, ◌<◌, ◌≤◌, ℕ, drop, length, vec_len}
-use Rattle.code_layout.proofs.Beginning.{Sought}
+use Rattle.std.proofs.Common.{◌≡◌, ◌+◌, ◌*◌, ◌<◌, ◌≤◌, ℕ, take, length, vec_len, slice_index}
+use Rattle.std.specs.List.{sum_by}
+use Rattle.block_find.specs.Laws.{all_blocks, block_at, word_count}
+use Rattle.code_layout.specs.Places.{place_of, no_moves}
+use Rattle.code_layout.specs.Layout.{stands_at}
 use Rattle.code_layout.proofs.layout.entries.Given as goal
 
-abbrev pub invariant-loop-laid : goal.invariant-loop-laid
-invariant-loop-laid l = record {
-  count : vec_len l.entries ≡ length l.source.decoded.now;
-  sought : (k : ℕ) → k < length l.source.decoded.now → Sought l.source.first l.source.decoded.now (l.code + 5) l.at l.order (drop l.laid-index l.order) l.entries.items k;
-  room : l.at ≤ l.code + 5 + 636 * l.laid-index;
+abbrev pub invariant-loop-block : goal.invariant-loop-block
+invariant-loop-block l = record {
+  count : vec_len l.entries ≡ length l.source.words.now;
+  here : l.at ≡ stands_at l.source.first l.source.decoded.now no_moves (l.code + 5) (all_blocks l.source.blocks.now) l.block;
+  each : (i : ℕ) → i < l.block → slice_index l.entries.items (place_of l.source.first (block_at (all_blocks l.source.blocks.now) i).at) ≡ stands_at l.source.first l.source.decoded.now no_moves (l.code + 5) (all_blocks l.source.blocks.now) i;
+  room : l.at ≤ l.code + 5 + 636 * sum_by word_count (take l.block (all_blocks l.source.blocks.now));
 }

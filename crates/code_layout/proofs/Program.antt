@@ -1,0 +1,38 @@
+-- What is put together of a program's words, blocks, table and code.
+use Rattle.std.proofs.Common.{◌≡◌, ℕ, ◌+◌, ◌*◌, ◌<◌, List, length, slice_index, Option, sym, ap, ◌∙◌, subst}
+use Rattle.ppc_isa.specs.declared.instr.Instr.{Instr}
+use Rattle.space.specs.declared.program.Program.{Program}
+use Rattle.branch_table.specs.declared.code.Code.{Code}
+use Rattle.block_find.specs.Branches.{address_of}
+use Rattle.block_find.specs.Blocks.{AreBlocksOf}
+use Rattle.block_find.specs.Laws.{all_blocks}
+use Rattle.block_find.specs.declared.block.Blocks.{Blocks}
+use Rattle.code_words.specs.Words.{HasWords, first_of}
+use Rattle.code_layout.specs.Decoded.{AreDecodedAs}
+use Rattle.code_layout.specs.Places.{no_moves, Places, places_in}
+use Rattle.code_layout.specs.Layout.{code_bytes, BeginsAt, IsCodeFor, IsLaidFor}
+
+pub code_for : (first entry : ℕ) (words : List ℕ) (decoded : List (Option Instr)) (blocks : Blocks) (area : ℕ) (table table' bytes bytes' : List ℕ) (p : Places) → AreDecodedAs words decoded → AreBlocksOf first entry words blocks →
+    p ≡ places_in area first table' → table' ≡ table → bytes' ≡ bytes → bytes ≡ code_bytes decoded p (all_blocks blocks) → ((k : ℕ) → k < length words → BeginsAt first decoded no_moves (area + 0x81000 + 5) (all_blocks blocks) (address_of first k) (slice_index table k)) →
+    IsCodeFor first entry words area table' bytes'
+code_for first entry words decoded blocks area table table' bytes bytes' p are are_blocks places same made laid begins = record {
+  decoded = decoded;
+  are_decoded = are;
+  blocks = blocks;
+  are_blocks = are_blocks;
+  laid = made ∙ laid ∙ ap (λ (q : Places). code_bytes decoded q (all_blocks blocks)) places;
+  entries = subst (λ (t : List ℕ). (k : ℕ) → k < length words → BeginsAt first decoded no_moves (area + 0x81000 + 5) (all_blocks blocks) (address_of first k) (slice_index t k)) (sym same) begins;
+}
+
+pub laid_for : (P : Program) (area first entry : ℕ) (code : Code) (words words' : List ℕ) → first ≡ first_of P → words' ≡ words → HasWords P (first_of P) words → P.entry ≡ first_of P + 4 * entry → entry < length words →
+    IsCodeFor first entry words' area code.entries code.bytes → length code.entries ≡ length words' → code.start ≡ slice_index code.entries entry → IsLaidFor P area code
+laid_for P area first entry code words words' here same has begins within laid count start = record {
+  words = words;
+  entry = entry;
+  has = has;
+  begins = begins;
+  within = within;
+  blocks = subst (λ (f : ℕ). IsCodeFor f entry words area code.entries code.bytes) here (subst (λ (w : List ℕ). IsCodeFor first entry w area code.entries code.bytes) same laid);
+  count = subst (λ (w : List ℕ). length code.entries ≡ length w) same count;
+  start = start;
+}
