@@ -1,9 +1,10 @@
 //! Branches.
 
-ghost use Rattle.std.specs.Prelude.{◌≡◌, ℕ, Bool, false, ◌≤◌, ◌^◌, ◌-◌, IfOk, OnOk, OnErr, IsTrue, cond, eqb, ◌<◌};
+ghost use Rattle.std.specs.Prelude.{◌≡◌, ℕ, Bool, false, ◌≤◌, ◌^◌, ◌-◌, IfOk, OnErr, IsTrue, cond, eqb, ◌<◌};
+ghost use Rattle.word_kit.specs.Algebra.{IsLater, GivesWord, GivesFlag};
 ghost use Rattle.word_kit.specs.Words.{sum_word, same};
 ghost use Rattle.ppc_isa.specs.BranchRows.{bo_bit, count_allows, condition_allows, branch_on};
-ghost use Rattle.ppc_parts.specs.Meanings.{IsOwned, EffectOwned, values_of, effect_of};
+ghost use Rattle.ppc_parts.specs.Meanings.{IsOwned, EffectOwned, values_of, effect_of, GivesEffect};
 ghost use Rattle.ppc_flow.specs.BranchTerms.{jump_term, fallen_term, counted_term, same_term, zero_term, count_term, condition_term, branch_term};
 ghost use Rattle.ppc_flow.specs.Meant.{jumps};
 
@@ -28,14 +29,10 @@ pub fn jump<A: Alg>(alg: &mut A, from: &GuestIn<A>) -> Effect<A>
 // CTR less 1.
 pub(crate) fn fallen<A: Alg>(alg: &mut A, ctr: A::W) -> Result<A::W, NoMemory>
     requires ctr_owned { A.word_reach ctr ≤ A.extent alg.old }
-    ensures grows { A.extent alg.old ≤ A.extent alg.new }
-    ensures earlier { (v : ℕ → Bool) → A.admits alg.new v → A.admits alg.old v }
-    ensures opaque { A.opaque alg.new ≡ A.opaque alg.old }
-    ensures made { IfOk result (λ r. r ≡ (fallen_term A.ops ctr (A.held alg.old)).word) }
-    ensures held { OnOk result (A.held alg.new ≡ (fallen_term A.ops ctr (A.held alg.old)).held) }
+    ensures later { IsLater A.Alg alg.old alg.new }
+    ensures makes { IfOk result (λ r. record { word = r; held = A.held alg.new } ≡ fallen_term A.ops ctr (A.held alg.old)) }
     ensures fails { OnErr result (IsTrue A.takes_memory) }
-    ensures owned { IfOk result (λ r. A.word_reach r ≤ A.extent alg.new) }
-    ensures means { IfOk result (λ r. (v : ℕ → Bool) → A.admits alg.new v → A.word r v ≡ sum_word (A.word ctr v) (2 ^ 32 - 1) false) }
+    ensures gives { IfOk result (λ r. GivesWord A.Alg alg.new r (λ v. sum_word (A.word ctr v) (2 ^ 32 - 1) false)) }
 {
     let minus_one = alg.lit(u32::MAX);
     let none = alg.flag(false);
@@ -46,14 +43,10 @@ pub(crate) fn fallen<A: Alg>(alg: &mut A, ctr: A::W) -> Result<A::W, NoMemory>
 // CTR after a branch.
 pub(crate) fn counted<A: Alg>(alg: &mut A, bo: u8, ctr: A::W) -> Result<A::W, NoMemory>
     requires ctr_owned { A.word_reach ctr ≤ A.extent alg.old }
-    ensures grows { A.extent alg.old ≤ A.extent alg.new }
-    ensures earlier { (v : ℕ → Bool) → A.admits alg.new v → A.admits alg.old v }
-    ensures opaque { A.opaque alg.new ≡ A.opaque alg.old }
-    ensures made { IfOk result (λ r. r ≡ (counted_term A.ops bo ctr (A.held alg.old)).word) }
-    ensures held { OnOk result (A.held alg.new ≡ (counted_term A.ops bo ctr (A.held alg.old)).held) }
+    ensures later { IsLater A.Alg alg.old alg.new }
+    ensures makes { IfOk result (λ r. record { word = r; held = A.held alg.new } ≡ counted_term A.ops bo ctr (A.held alg.old)) }
     ensures fails { OnErr result (IsTrue A.takes_memory) }
-    ensures owned { IfOk result (λ r. A.word_reach r ≤ A.extent alg.new) }
-    ensures means { IfOk result (λ r. (v : ℕ → Bool) → A.admits alg.new v → A.word r v ≡ cond (bo_bit bo 2) (A.word ctr v) (sum_word (A.word ctr v) (2 ^ 32 - 1) false)) }
+    ensures gives { IfOk result (λ r. GivesWord A.Alg alg.new r (λ v. cond (bo_bit bo 2) (A.word ctr v) (sum_word (A.word ctr v) (2 ^ 32 - 1) false))) }
 {
     if bo / 4 % 2 == 1 {
         Ok(ctr)
@@ -76,14 +69,10 @@ pub(crate) fn as_wanted<A: Alg>(alg: &mut A, want: bool, b: A::B) -> A::B
 // Whether it is wanted that CTR is 0, and it is, or neither.
 pub(crate) fn is_zero<A: Alg>(alg: &mut A, want: bool, ctr: A::W) -> Result<A::B, NoMemory>
     requires ctr_owned { A.word_reach ctr ≤ A.extent alg.old }
-    ensures grows { A.extent alg.old ≤ A.extent alg.new }
-    ensures earlier { (v : ℕ → Bool) → A.admits alg.new v → A.admits alg.old v }
-    ensures opaque { A.opaque alg.new ≡ A.opaque alg.old }
-    ensures made { IfOk result (λ r. r ≡ (zero_term A.ops want ctr (A.held alg.old)).flag) }
-    ensures held { OnOk result (A.held alg.new ≡ (zero_term A.ops want ctr (A.held alg.old)).held) }
+    ensures later { IsLater A.Alg alg.old alg.new }
+    ensures makes { IfOk result (λ r. record { flag = r; held = A.held alg.new } ≡ zero_term A.ops want ctr (A.held alg.old)) }
     ensures fails { OnErr result (IsTrue A.takes_memory) }
-    ensures owned { IfOk result (λ r. A.flag_reach r ≤ A.extent alg.new) }
-    ensures means { IfOk result (λ r. (v : ℕ → Bool) → A.admits alg.new v → A.truth r v ≡ same want (eqb (A.word ctr v) 0)) }
+    ensures gives { IfOk result (λ r. GivesFlag A.Alg alg.new r (λ v. same want (eqb (A.word ctr v) 0))) }
 {
     let zero = alg.lit(0);
     let is_zero = alg.equal(ctr, zero)?;
@@ -93,14 +82,10 @@ pub(crate) fn is_zero<A: Alg>(alg: &mut A, want: bool, ctr: A::W) -> Result<A::B
 // Whether the count lets the branch be taken.
 pub(crate) fn count_holds<A: Alg>(alg: &mut A, bo: u8, ctr: A::W) -> Result<A::B, NoMemory>
     requires ctr_owned { A.word_reach ctr ≤ A.extent alg.old }
-    ensures grows { A.extent alg.old ≤ A.extent alg.new }
-    ensures earlier { (v : ℕ → Bool) → A.admits alg.new v → A.admits alg.old v }
-    ensures opaque { A.opaque alg.new ≡ A.opaque alg.old }
-    ensures made { IfOk result (λ r. r ≡ (count_term A.ops bo ctr (A.held alg.old)).flag) }
-    ensures held { OnOk result (A.held alg.new ≡ (count_term A.ops bo ctr (A.held alg.old)).held) }
+    ensures later { IsLater A.Alg alg.old alg.new }
+    ensures makes { IfOk result (λ r. record { flag = r; held = A.held alg.new } ≡ count_term A.ops bo ctr (A.held alg.old)) }
     ensures fails { OnErr result (IsTrue A.takes_memory) }
-    ensures owned { IfOk result (λ r. A.flag_reach r ≤ A.extent alg.new) }
-    ensures means { IfOk result (λ r. (v : ℕ → Bool) → A.admits alg.new v → A.truth r v ≡ count_allows bo (A.word ctr v)) }
+    ensures gives { IfOk result (λ r. GivesFlag A.Alg alg.new r (λ v. count_allows bo (A.word ctr v))) }
 {
     if bo / 4 % 2 == 1 {
         Ok(alg.flag(true))
@@ -129,14 +114,10 @@ pub(crate) fn condition_holds<A: Alg>(alg: &mut A, bo: u8, b: A::B) -> A::B
 pub fn branch<A: Alg>(alg: &mut A, bo: u8, bi: u8, from: &GuestIn<A>) -> Result<Effect<A>, NoMemory>
     requires bi_within { bi < 32 }
     requires owned { IsOwned A.word_reach (A.extent alg.old) from.now }
-    ensures grows { A.extent alg.old ≤ A.extent alg.new }
-    ensures earlier { (v : ℕ → Bool) → A.admits alg.new v → A.admits alg.old v }
-    ensures opaque { A.opaque alg.new ≡ A.opaque alg.old }
-    ensures made { IfOk result (λ r. r ≡ (branch_term A.ops bo bi (A.held alg.old) from.now).effect) }
-    ensures held { OnOk result (A.held alg.new ≡ (branch_term A.ops bo bi (A.held alg.old) from.now).held) }
+    ensures later { IsLater A.Alg alg.old alg.new }
+    ensures makes { IfOk result (λ r. record { effect = r; held = A.held alg.new } ≡ branch_term A.ops bo bi (A.held alg.old) from.now) }
     ensures fails { OnErr result (IsTrue A.takes_memory) }
-    ensures owned { IfOk result (λ r. EffectOwned A.word_reach A.flag_reach (A.extent alg.new) r) }
-    ensures means { IfOk result (λ r. (v : ℕ → Bool) → A.admits alg.new v → effect_of (λ w. A.word w v) (λ b. A.truth b v) r ≡ branch_on bo bi (values_of (λ w. A.word w v) from.now)) }
+    ensures gives { IfOk result (λ r. GivesEffect A.Alg alg.new r (λ v. branch_on bo bi (values_of (λ w. A.word w v) from.now))) }
 {
     let ctr = counted(alg, bo, from.ctr)?;
     let counts = count_holds(alg, bo, ctr)?;

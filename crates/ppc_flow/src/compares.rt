@@ -1,8 +1,9 @@
 //! Compares.
 
-ghost use Rattle.std.specs.Prelude.{◌≡◌, ◌<◌, ◌≤◌, ℕ, Bool, IfOk, OnOk, OnErr, IsTrue};
+ghost use Rattle.std.specs.Prelude.{◌≡◌, ◌<◌, IfOk, OnErr, IsTrue};
+ghost use Rattle.word_kit.specs.Algebra.{IsLater};
 ghost use Rattle.ppc_isa.specs.Rows.{compare_row, compare_immediate_row};
-ghost use Rattle.ppc_parts.specs.Meanings.{IsOwned, EffectOwned, values_of, effect_of};
+ghost use Rattle.ppc_parts.specs.Meanings.{IsOwned, values_of, GivesEffect};
 ghost use Rattle.ppc_flow.specs.CompareTerms.{compare_term, compare_row_term, compare_immediate_term};
 ghost use Rattle.ppc_flow.specs.Meant.{compares};
 
@@ -19,14 +20,10 @@ pub(crate) fn compare_words<A: Alg>(
 ) -> Result<Effect<A>, NoMemory>
     requires within { field < 8 }
     requires owned { IsOwned A.word_reach (A.extent alg.old) from.now }
-    ensures grows { A.extent alg.old ≤ A.extent alg.new }
-    ensures earlier { (v : ℕ → Bool) → A.admits alg.new v → A.admits alg.old v }
-    ensures opaque { A.opaque alg.new ≡ A.opaque alg.old }
-    ensures made { IfOk result (λ r. r ≡ (compare_term A.ops signed field (A.held alg.old) from.now).effect) }
-    ensures held { OnOk result (A.held alg.new ≡ (compare_term A.ops signed field (A.held alg.old) from.now).held) }
+    ensures later { IsLater A.Alg alg.old alg.new }
+    ensures makes { IfOk result (λ r. record { effect = r; held = A.held alg.new } ≡ compare_term A.ops signed field (A.held alg.old) from.now) }
     ensures fails { OnErr result (IsTrue A.takes_memory) }
-    ensures owned { IfOk result (λ r. EffectOwned A.word_reach A.flag_reach (A.extent alg.new) r) }
-    ensures means { IfOk result (λ r. (v : ℕ → Bool) → A.admits alg.new v → effect_of (λ w. A.word w v) (λ b. A.truth b v) r ≡ compares signed field (values_of (λ w. A.word w v) from.now)) }
+    ensures gives { IfOk result (λ r. GivesEffect A.Alg alg.new r (λ v. compares signed field (values_of (λ w. A.word w v) from.now))) }
 {
     let cr = compare(alg, signed, field, from.a, from.b, from)?;
     Ok(Effect {
@@ -44,14 +41,10 @@ pub fn compare_row<A: Alg>(
 ) -> Result<Effect<A>, NoMemory>
     requires within { field < 8 }
     requires owned { IsOwned A.word_reach (A.extent alg.old) from.now }
-    ensures grows { A.extent alg.old ≤ A.extent alg.new }
-    ensures earlier { (v : ℕ → Bool) → A.admits alg.new v → A.admits alg.old v }
-    ensures opaque { A.opaque alg.new ≡ A.opaque alg.old }
-    ensures made { IfOk result (λ r. r ≡ (compare_row_term A.ops op field (A.held alg.old) from.now).effect) }
-    ensures held { OnOk result (A.held alg.new ≡ (compare_row_term A.ops op field (A.held alg.old) from.now).held) }
+    ensures later { IsLater A.Alg alg.old alg.new }
+    ensures makes { IfOk result (λ r. record { effect = r; held = A.held alg.new } ≡ compare_row_term A.ops op field (A.held alg.old) from.now) }
     ensures fails { OnErr result (IsTrue A.takes_memory) }
-    ensures owned { IfOk result (λ r. EffectOwned A.word_reach A.flag_reach (A.extent alg.new) r) }
-    ensures means { IfOk result (λ r. (v : ℕ → Bool) → A.admits alg.new v → effect_of (λ w. A.word w v) (λ b. A.truth b v) r ≡ compare_row op field (values_of (λ w. A.word w v) from.now)) }
+    ensures gives { IfOk result (λ r. GivesEffect A.Alg alg.new r (λ v. compare_row op field (values_of (λ w. A.word w v) from.now))) }
 {
     match op {
         CompareOp::Cmp => compare_words(alg, true, field, from),
@@ -69,14 +62,10 @@ pub fn compare_immediate_row<A: Alg>(
 ) -> Result<Effect<A>, NoMemory>
     requires within { field < 8 }
     requires owned { IsOwned A.word_reach (A.extent alg.old) from.now }
-    ensures grows { A.extent alg.old ≤ A.extent alg.new }
-    ensures earlier { (v : ℕ → Bool) → A.admits alg.new v → A.admits alg.old v }
-    ensures opaque { A.opaque alg.new ≡ A.opaque alg.old }
-    ensures made { IfOk result (λ r. r ≡ (compare_immediate_term A.ops op field (A.held alg.old) from.now).effect) }
-    ensures held { OnOk result (A.held alg.new ≡ (compare_immediate_term A.ops op field (A.held alg.old) from.now).held) }
+    ensures later { IsLater A.Alg alg.old alg.new }
+    ensures makes { IfOk result (λ r. record { effect = r; held = A.held alg.new } ≡ compare_immediate_term A.ops op field (A.held alg.old) from.now) }
     ensures fails { OnErr result (IsTrue A.takes_memory) }
-    ensures owned { IfOk result (λ r. EffectOwned A.word_reach A.flag_reach (A.extent alg.new) r) }
-    ensures means { IfOk result (λ r. (v : ℕ → Bool) → A.admits alg.new v → effect_of (λ w. A.word w v) (λ b. A.truth b v) r ≡ compare_immediate_row op field (values_of (λ w. A.word w v) from.now)) }
+    ensures gives { IfOk result (λ r. GivesEffect A.Alg alg.new r (λ v. compare_immediate_row op field (values_of (λ w. A.word w v) from.now))) }
 {
     match op {
         CompareImmediateOp::Cmpi => compare_words(alg, true, field, from),

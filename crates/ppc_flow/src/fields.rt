@@ -1,8 +1,9 @@
 //! CR by bits and fields.
 
-ghost use Rattle.std.specs.Prelude.{◌≡◌, ◌≤◌, ℕ, Bool, IfOk, OnOk, OnErr, IsTrue, ◌<◌};
+ghost use Rattle.std.specs.Prelude.{◌≡◌, ◌≤◌, ℕ, Bool, IfOk, OnErr, IsTrue, ◌<◌};
+ghost use Rattle.word_kit.specs.Algebra.{IsLater, GivesFlag};
 ghost use Rattle.ppc_isa.specs.FieldRows.{cr_logic};
-ghost use Rattle.ppc_parts.specs.Meanings.{IsOwned, EffectOwned, values_of, effect_of};
+ghost use Rattle.ppc_parts.specs.Meanings.{IsOwned, EffectOwned, values_of, effect_of, GivesEffect};
 ghost use Rattle.ppc_flow.specs.FieldTerms.{cr_logic_term, cr_logic_row_term, field_moved_term, cr_read_term};
 ghost use Rattle.ppc_flow.specs.Meant.{cr_logics, moves_field, reads_cr};
 
@@ -19,14 +20,10 @@ pub(crate) fn cr_bits<A: Alg>(
 ) -> Result<A::B, NoMemory>
     requires x_owned { A.flag_reach x ≤ A.extent alg.old }
     requires y_owned { A.flag_reach y ≤ A.extent alg.old }
-    ensures grows { A.extent alg.old ≤ A.extent alg.new }
-    ensures earlier { (v : ℕ → Bool) → A.admits alg.new v → A.admits alg.old v }
-    ensures opaque { A.opaque alg.new ≡ A.opaque alg.old }
-    ensures made { IfOk result (λ r. r ≡ (cr_logic_term A.ops op x y (A.held alg.old)).flag) }
-    ensures held { OnOk result (A.held alg.new ≡ (cr_logic_term A.ops op x y (A.held alg.old)).held) }
+    ensures later { IsLater A.Alg alg.old alg.new }
+    ensures makes { IfOk result (λ r. record { flag = r; held = A.held alg.new } ≡ cr_logic_term A.ops op x y (A.held alg.old)) }
     ensures fails { OnErr result (IsTrue A.takes_memory) }
-    ensures owned { IfOk result (λ r. A.flag_reach r ≤ A.extent alg.new) }
-    ensures means { IfOk result (λ r. (v : ℕ → Bool) → A.admits alg.new v → A.truth r v ≡ cr_logic op (A.truth x v) (A.truth y v)) }
+    ensures gives { IfOk result (λ r. GivesFlag A.Alg alg.new r (λ v. cr_logic op (A.truth x v) (A.truth y v))) }
 {
     let not_y = alg.flip(y);
     match op {
@@ -63,14 +60,10 @@ pub fn cr_logic_row<A: Alg>(
     requires a_within { a < 32 }
     requires b_within { b < 32 }
     requires owned { IsOwned A.word_reach (A.extent alg.old) from.now }
-    ensures grows { A.extent alg.old ≤ A.extent alg.new }
-    ensures earlier { (v : ℕ → Bool) → A.admits alg.new v → A.admits alg.old v }
-    ensures opaque { A.opaque alg.new ≡ A.opaque alg.old }
-    ensures made { IfOk result (λ r. r ≡ (cr_logic_row_term A.ops op d a b (A.held alg.old) from.now).effect) }
-    ensures held { OnOk result (A.held alg.new ≡ (cr_logic_row_term A.ops op d a b (A.held alg.old) from.now).held) }
+    ensures later { IsLater A.Alg alg.old alg.new }
+    ensures makes { IfOk result (λ r. record { effect = r; held = A.held alg.new } ≡ cr_logic_row_term A.ops op d a b (A.held alg.old) from.now) }
     ensures fails { OnErr result (IsTrue A.takes_memory) }
-    ensures owned { IfOk result (λ r. EffectOwned A.word_reach A.flag_reach (A.extent alg.new) r) }
-    ensures means { IfOk result (λ r. (v : ℕ → Bool) → A.admits alg.new v → effect_of (λ w. A.word w v) (λ b. A.truth b v) r ≡ cr_logics op d a b (values_of (λ w. A.word w v) from.now)) }
+    ensures gives { IfOk result (λ r. GivesEffect A.Alg alg.new r (λ v. cr_logics op d a b (values_of (λ w. A.word w v) from.now))) }
 {
     let x = alg.bit(from.cr, 31 - a);
     let y = alg.bit(from.cr, 31 - b);

@@ -1,8 +1,9 @@
 //! Fields of CR from a register.
 
-ghost use Rattle.std.specs.Prelude.{◌≡◌, ◌≤◌, ℕ, Bool, IfOk, OnOk, OnErr, IsTrue};
+ghost use Rattle.std.specs.Prelude.{◌≡◌, IfOk, OnErr, IsTrue};
+ghost use Rattle.word_kit.specs.Algebra.{IsLater};
 ghost use Rattle.ppc_isa.specs.FieldRows.{fields_mask};
-ghost use Rattle.ppc_parts.specs.Meanings.{IsOwned, EffectOwned, values_of, effect_of};
+ghost use Rattle.ppc_parts.specs.Meanings.{IsOwned, values_of, GivesEffect};
 ghost use Rattle.ppc_flow.specs.FieldTerms.{fields_put_term};
 ghost use Rattle.ppc_flow.specs.Meant.{puts_fields};
 
@@ -26,14 +27,10 @@ pub(crate) fn fields_mask(chosen: u8) -> u32
 /// "Move To/From System Register Instructions").
 pub fn put_fields<A: Alg>(alg: &mut A, chosen: u8, from: &GuestIn<A>) -> Result<Effect<A>, NoMemory>
     requires owned { IsOwned A.word_reach (A.extent alg.old) from.now }
-    ensures grows { A.extent alg.old ≤ A.extent alg.new }
-    ensures earlier { (v : ℕ → Bool) → A.admits alg.new v → A.admits alg.old v }
-    ensures opaque { A.opaque alg.new ≡ A.opaque alg.old }
-    ensures made { IfOk result (λ r. r ≡ (fields_put_term A.ops chosen (A.held alg.old) from.now).effect) }
-    ensures held { OnOk result (A.held alg.new ≡ (fields_put_term A.ops chosen (A.held alg.old) from.now).held) }
+    ensures later { IsLater A.Alg alg.old alg.new }
+    ensures makes { IfOk result (λ r. record { effect = r; held = A.held alg.new } ≡ fields_put_term A.ops chosen (A.held alg.old) from.now) }
     ensures fails { OnErr result (IsTrue A.takes_memory) }
-    ensures owned { IfOk result (λ r. EffectOwned A.word_reach A.flag_reach (A.extent alg.new) r) }
-    ensures means { IfOk result (λ r. (v : ℕ → Bool) → A.admits alg.new v → effect_of (λ w. A.word w v) (λ b. A.truth b v) r ≡ puts_fields chosen (values_of (λ w. A.word w v) from.now)) }
+    ensures gives { IfOk result (λ r. GivesEffect A.Alg alg.new r (λ v. puts_fields chosen (values_of (λ w. A.word w v) from.now))) }
 {
     let ones = fields_mask(chosen);
     let chosen_ones = alg.lit(ones);

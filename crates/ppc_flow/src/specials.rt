@@ -1,8 +1,9 @@
 //! The special registers.
 
-ghost use Rattle.std.specs.Prelude.{◌≡◌, ℕ, Bool, ◌≤◌, IfOk, OnOk, OnErr, IsTrue};
+ghost use Rattle.std.specs.Prelude.{◌≡◌, ℕ, Bool, IfOk, OnErr, IsTrue};
+ghost use Rattle.word_kit.specs.Algebra.{IsLater};
 ghost use Rattle.ppc_isa.specs.FieldRows.{special_put};
-ghost use Rattle.ppc_parts.specs.Meanings.{IsOwned, EffectOwned, values_of, effect_of};
+ghost use Rattle.ppc_parts.specs.Meanings.{IsOwned, EffectOwned, values_of, effect_of, GivesEffect};
 ghost use Rattle.ppc_flow.specs.FieldTerms.{special_value_term, special_read_term, link_or_count_term, xer_put_term, special_put_term};
 ghost use Rattle.ppc_flow.specs.Meant.{reads_special, puts_link_or_count};
 
@@ -56,14 +57,10 @@ pub(crate) fn put_link_or_count<A: Alg>(alg: &mut A, spr: u16, from: &GuestIn<A>
 // The bits of XER from rS.
 pub(crate) fn put_xer<A: Alg>(alg: &mut A, from: &GuestIn<A>) -> Result<Effect<A>, NoMemory>
     requires owned { IsOwned A.word_reach (A.extent alg.old) from.now }
-    ensures grows { A.extent alg.old ≤ A.extent alg.new }
-    ensures earlier { (v : ℕ → Bool) → A.admits alg.new v → A.admits alg.old v }
-    ensures opaque { A.opaque alg.new ≡ A.opaque alg.old }
-    ensures made { IfOk result (λ r. r ≡ (xer_put_term A.ops (A.held alg.old) from.now).effect) }
-    ensures held { OnOk result (A.held alg.new ≡ (xer_put_term A.ops (A.held alg.old) from.now).held) }
+    ensures later { IsLater A.Alg alg.old alg.new }
+    ensures makes { IfOk result (λ r. record { effect = r; held = A.held alg.new } ≡ xer_put_term A.ops (A.held alg.old) from.now) }
     ensures fails { OnErr result (IsTrue A.takes_memory) }
-    ensures owned { IfOk result (λ r. EffectOwned A.word_reach A.flag_reach (A.extent alg.new) r) }
-    ensures means { IfOk result (λ r. (v : ℕ → Bool) → A.admits alg.new v → effect_of (λ w. A.word w v) (λ b. A.truth b v) r ≡ special_put 1 (values_of (λ w. A.word w v) from.now)) }
+    ensures gives { IfOk result (λ r. GivesEffect A.Alg alg.new r (λ v. special_put 1 (values_of (λ w. A.word w v) from.now))) }
 {
     let bits = alg.lit(0xe000_007f);
     let xer = alg.and(from.s, bits)?;
@@ -77,14 +74,10 @@ pub(crate) fn put_xer<A: Alg>(alg: &mut A, from: &GuestIn<A>) -> Result<Effect<A
 /// Instructions"). XER takes SO, OV, CA and its low seven bits.
 pub fn put_special<A: Alg>(alg: &mut A, spr: u16, from: &GuestIn<A>) -> Result<Effect<A>, NoMemory>
     requires owned { IsOwned A.word_reach (A.extent alg.old) from.now }
-    ensures grows { A.extent alg.old ≤ A.extent alg.new }
-    ensures earlier { (v : ℕ → Bool) → A.admits alg.new v → A.admits alg.old v }
-    ensures opaque { A.opaque alg.new ≡ A.opaque alg.old }
-    ensures made { IfOk result (λ r. r ≡ (special_put_term A.ops spr (A.held alg.old) from.now).effect) }
-    ensures held { OnOk result (A.held alg.new ≡ (special_put_term A.ops spr (A.held alg.old) from.now).held) }
+    ensures later { IsLater A.Alg alg.old alg.new }
+    ensures makes { IfOk result (λ r. record { effect = r; held = A.held alg.new } ≡ special_put_term A.ops spr (A.held alg.old) from.now) }
     ensures fails { OnErr result (IsTrue A.takes_memory) }
-    ensures owned { IfOk result (λ r. EffectOwned A.word_reach A.flag_reach (A.extent alg.new) r) }
-    ensures means { IfOk result (λ r. (v : ℕ → Bool) → A.admits alg.new v → effect_of (λ w. A.word w v) (λ b. A.truth b v) r ≡ special_put spr (values_of (λ w. A.word w v) from.now)) }
+    ensures gives { IfOk result (λ r. GivesEffect A.Alg alg.new r (λ v. special_put spr (values_of (λ w. A.word w v) from.now))) }
 {
     if spr == 1 {
         put_xer(alg, from)

@@ -1,8 +1,9 @@
 //! Accesses.
 
-ghost use Rattle.std.specs.Prelude.{◌≡◌, ◌≤◌, ℕ, Bool, ◌^◌, ◌%◌, IfOk, OnOk, OnErr, IsTrue};
+ghost use Rattle.std.specs.Prelude.{◌≡◌, ◌≤◌, ℕ, Bool, ◌^◌, ◌%◌, IfOk, OnErr, IsTrue};
+ghost use Rattle.word_kit.specs.Algebra.{IsLater};
 ghost use Rattle.ppc_isa.specs.AccessRows.{word_reversed, half_reversed, loads, stores, updates};
-ghost use Rattle.ppc_parts.specs.Meanings.{IsOwned, EffectOwned, values_of, effect_of};
+ghost use Rattle.ppc_parts.specs.Meanings.{IsOwned, values_of, GivesEffect};
 ghost use Rattle.ppc_memory.specs.AccessTerms.{reversed_term, half_reversed_term, low_byte_term, low_half_term, load_term, store_term, update_term};
 
 use ppc_parts::{Access, Effect, GuestIn, unchanged};
@@ -75,14 +76,10 @@ pub(crate) fn load<A: Alg>(
     requires base_owned { A.word_reach base ≤ A.extent alg.old }
     requires number_owned { A.word_reach number ≤ A.extent alg.old }
     requires owned { IsOwned A.word_reach (A.extent alg.old) from.now }
-    ensures grows { A.extent alg.old ≤ A.extent alg.new }
-    ensures earlier { (v : ℕ → Bool) → A.admits alg.new v → A.admits alg.old v }
-    ensures opaque { A.opaque alg.new ≡ A.opaque alg.old }
-    ensures made { IfOk result (λ r. r ≡ (load_term A.ops width base number (A.held alg.old) from.now).effect) }
-    ensures held { OnOk result (A.held alg.new ≡ (load_term A.ops width base number (A.held alg.old) from.now).held) }
+    ensures later { IsLater A.Alg alg.old alg.new }
+    ensures makes { IfOk result (λ r. record { effect = r; held = A.held alg.new } ≡ load_term A.ops width base number (A.held alg.old) from.now) }
     ensures fails { OnErr result (IsTrue A.takes_memory) }
-    ensures owned { IfOk result (λ r. EffectOwned A.word_reach A.flag_reach (A.extent alg.new) r) }
-    ensures means { IfOk result (λ r. (v : ℕ → Bool) → A.admits alg.new v → effect_of (λ w. A.word w v) (λ b. A.truth b v) r ≡ loads width (A.word base v) (A.word number v) (values_of (λ w. A.word w v) from.now)) }
+    ensures gives { IfOk result (λ r. GivesEffect A.Alg alg.new r (λ v. loads width (A.word base v) (A.word number v) (values_of (λ w. A.word w v) from.now))) }
 {
     let none = alg.flag(false);
     let (address, _) = alg.add(base, from.b, none)?;
@@ -106,14 +103,10 @@ pub(crate) fn store<A: Alg>(
     requires base_owned { A.word_reach base ≤ A.extent alg.old }
     requires number_owned { A.word_reach number ≤ A.extent alg.old }
     requires owned { IsOwned A.word_reach (A.extent alg.old) from.now }
-    ensures grows { A.extent alg.old ≤ A.extent alg.new }
-    ensures earlier { (v : ℕ → Bool) → A.admits alg.new v → A.admits alg.old v }
-    ensures opaque { A.opaque alg.new ≡ A.opaque alg.old }
-    ensures made { IfOk result (λ r. r ≡ (store_term A.ops width base number (A.held alg.old) from.now).effect) }
-    ensures held { OnOk result (A.held alg.new ≡ (store_term A.ops width base number (A.held alg.old) from.now).held) }
+    ensures later { IsLater A.Alg alg.old alg.new }
+    ensures makes { IfOk result (λ r. record { effect = r; held = A.held alg.new } ≡ store_term A.ops width base number (A.held alg.old) from.now) }
     ensures fails { OnErr result (IsTrue A.takes_memory) }
-    ensures owned { IfOk result (λ r. EffectOwned A.word_reach A.flag_reach (A.extent alg.new) r) }
-    ensures means { IfOk result (λ r. (v : ℕ → Bool) → A.admits alg.new v → effect_of (λ w. A.word w v) (λ b. A.truth b v) r ≡ stores width (A.word base v) (A.word number v) (values_of (λ w. A.word w v) from.now)) }
+    ensures gives { IfOk result (λ r. GivesEffect A.Alg alg.new r (λ v. stores width (A.word base v) (A.word number v) (values_of (λ w. A.word w v) from.now))) }
 {
     let none = alg.flag(false);
     let (address, _) = alg.add(base, from.b, none)?;
@@ -135,14 +128,10 @@ pub(crate) fn load_update<A: Alg>(
 ) -> Result<Effect<A>, NoMemory>
     requires number_owned { A.word_reach number ≤ A.extent alg.old }
     requires owned { IsOwned A.word_reach (A.extent alg.old) from.now }
-    ensures grows { A.extent alg.old ≤ A.extent alg.new }
-    ensures earlier { (v : ℕ → Bool) → A.admits alg.new v → A.admits alg.old v }
-    ensures opaque { A.opaque alg.new ≡ A.opaque alg.old }
-    ensures made { IfOk result (λ r. r ≡ (update_term A.ops (load_term A.ops width from.now.a number (A.held alg.old) from.now)).effect) }
-    ensures held { OnOk result (A.held alg.new ≡ (update_term A.ops (load_term A.ops width from.now.a number (A.held alg.old) from.now)).held) }
+    ensures later { IsLater A.Alg alg.old alg.new }
+    ensures makes { IfOk result (λ r. record { effect = r; held = A.held alg.new } ≡ update_term A.ops (load_term A.ops width from.now.a number (A.held alg.old) from.now)) }
     ensures fails { OnErr result (IsTrue A.takes_memory) }
-    ensures owned { IfOk result (λ r. EffectOwned A.word_reach A.flag_reach (A.extent alg.new) r) }
-    ensures means { IfOk result (λ r. (v : ℕ → Bool) → A.admits alg.new v → effect_of (λ w. A.word w v) (λ b. A.truth b v) r ≡ updates (loads width (values_of (λ w. A.word w v) from.now).a (A.word number v) (values_of (λ w. A.word w v) from.now))) }
+    ensures gives { IfOk result (λ r. GivesEffect A.Alg alg.new r (λ v. updates (loads width (values_of (λ w. A.word w v) from.now).a (A.word number v) (values_of (λ w. A.word w v) from.now)))) }
 {
     let made = load(alg, width, from.a, number, from)?;
     let a = made.address;
@@ -158,14 +147,10 @@ pub(crate) fn store_update<A: Alg>(
 ) -> Result<Effect<A>, NoMemory>
     requires number_owned { A.word_reach number ≤ A.extent alg.old }
     requires owned { IsOwned A.word_reach (A.extent alg.old) from.now }
-    ensures grows { A.extent alg.old ≤ A.extent alg.new }
-    ensures earlier { (v : ℕ → Bool) → A.admits alg.new v → A.admits alg.old v }
-    ensures opaque { A.opaque alg.new ≡ A.opaque alg.old }
-    ensures made { IfOk result (λ r. r ≡ (update_term A.ops (store_term A.ops width from.now.a number (A.held alg.old) from.now)).effect) }
-    ensures held { OnOk result (A.held alg.new ≡ (update_term A.ops (store_term A.ops width from.now.a number (A.held alg.old) from.now)).held) }
+    ensures later { IsLater A.Alg alg.old alg.new }
+    ensures makes { IfOk result (λ r. record { effect = r; held = A.held alg.new } ≡ update_term A.ops (store_term A.ops width from.now.a number (A.held alg.old) from.now)) }
     ensures fails { OnErr result (IsTrue A.takes_memory) }
-    ensures owned { IfOk result (λ r. EffectOwned A.word_reach A.flag_reach (A.extent alg.new) r) }
-    ensures means { IfOk result (λ r. (v : ℕ → Bool) → A.admits alg.new v → effect_of (λ w. A.word w v) (λ b. A.truth b v) r ≡ updates (stores width (values_of (λ w. A.word w v) from.now).a (A.word number v) (values_of (λ w. A.word w v) from.now))) }
+    ensures gives { IfOk result (λ r. GivesEffect A.Alg alg.new r (λ v. updates (stores width (values_of (λ w. A.word w v) from.now).a (A.word number v) (values_of (λ w. A.word w v) from.now)))) }
 {
     let made = store(alg, width, from.a, number, from)?;
     let a = made.address;

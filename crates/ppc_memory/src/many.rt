@@ -1,7 +1,8 @@
 //! Accesses of many registers.
 
-ghost use Rattle.std.specs.Prelude.{◌≡◌, ◌≤◌, ◌<◌, ℕ, Bool, IfOk, OnOk, OnErr, IsTrue};
-ghost use Rattle.ppc_parts.specs.Meanings.{IsOwned, EffectOwned, kind_of, values_of, effect_of};
+ghost use Rattle.std.specs.Prelude.{◌≡◌, ◌≤◌, ◌<◌, IfOk, OnErr, IsTrue};
+ghost use Rattle.word_kit.specs.Algebra.{IsLater};
+ghost use Rattle.ppc_parts.specs.Meanings.{IsOwned, kind_of, values_of, GivesEffect};
 ghost use Rattle.ppc_memory.specs.Meant.{reaches_many, multiple};
 ghost use Rattle.ppc_memory.specs.StoreTerms.{many_term, multiple_term};
 
@@ -20,14 +21,10 @@ pub(crate) fn reach_many<A: Alg>(
     requires d_within { d < 32 }
     requires base_owned { A.word_reach base ≤ A.extent alg.old }
     requires owned { IsOwned A.word_reach (A.extent alg.old) from.now }
-    ensures grows { A.extent alg.old ≤ A.extent alg.new }
-    ensures earlier { (v : ℕ → Bool) → A.admits alg.new v → A.admits alg.old v }
-    ensures opaque { A.opaque alg.new ≡ A.opaque alg.old }
-    ensures made { IfOk result (λ r. r ≡ (many_term A.ops kind base d (A.held alg.old) from.now).effect) }
-    ensures held { OnOk result (A.held alg.new ≡ (many_term A.ops kind base d (A.held alg.old) from.now).held) }
+    ensures later { IsLater A.Alg alg.old alg.new }
+    ensures makes { IfOk result (λ r. record { effect = r; held = A.held alg.new } ≡ many_term A.ops kind base d (A.held alg.old) from.now) }
     ensures fails { OnErr result (IsTrue A.takes_memory) }
-    ensures owned { IfOk result (λ r. EffectOwned A.word_reach A.flag_reach (A.extent alg.new) r) }
-    ensures means { IfOk result (λ r. (v : ℕ → Bool) → A.admits alg.new v → effect_of (λ w. A.word w v) (λ b. A.truth b v) r ≡ reaches_many (kind_of kind) (A.word base v) d (values_of (λ w. A.word w v) from.now)) }
+    ensures gives { IfOk result (λ r. GivesEffect A.Alg alg.new r (λ v. reaches_many (kind_of kind) (A.word base v) d (values_of (λ w. A.word w v) from.now))) }
 {
     let none = alg.flag(false);
     let (address, _) = alg.add(base, from.b, none)?;
@@ -51,14 +48,10 @@ pub fn multiple_row<A: Alg>(
 ) -> Result<Effect<A>, NoMemory>
     requires d_within { d < 32 }
     requires owned { IsOwned A.word_reach (A.extent alg.old) from.now }
-    ensures grows { A.extent alg.old ≤ A.extent alg.new }
-    ensures earlier { (v : ℕ → Bool) → A.admits alg.new v → A.admits alg.old v }
-    ensures opaque { A.opaque alg.new ≡ A.opaque alg.old }
-    ensures made { IfOk result (λ r. r ≡ (multiple_term A.ops op d a (A.held alg.old) from.now).effect) }
-    ensures held { OnOk result (A.held alg.new ≡ (multiple_term A.ops op d a (A.held alg.old) from.now).held) }
+    ensures later { IsLater A.Alg alg.old alg.new }
+    ensures makes { IfOk result (λ r. record { effect = r; held = A.held alg.new } ≡ multiple_term A.ops op d a (A.held alg.old) from.now) }
     ensures fails { OnErr result (IsTrue A.takes_memory) }
-    ensures owned { IfOk result (λ r. EffectOwned A.word_reach A.flag_reach (A.extent alg.new) r) }
-    ensures means { IfOk result (λ r. (v : ℕ → Bool) → A.admits alg.new v → effect_of (λ w. A.word w v) (λ b. A.truth b v) r ≡ multiple op d a (values_of (λ w. A.word w v) from.now)) }
+    ensures gives { IfOk result (λ r. GivesEffect A.Alg alg.new r (λ v. multiple op d a (values_of (λ w. A.word w v) from.now))) }
 {
     let base = base(alg, a, from);
     match op {

@@ -1,8 +1,9 @@
 //! Stores by their ops.
 
-ghost use Rattle.std.specs.Prelude.{◌≡◌, ◌≤◌, ℕ, Bool, IfOk, OnOk, OnErr, IsTrue};
+ghost use Rattle.std.specs.Prelude.{◌≡◌, IfOk, OnErr, IsTrue};
+ghost use Rattle.word_kit.specs.Algebra.{IsLater};
 ghost use Rattle.ppc_isa.specs.Rows.{store_row, store_update_row, store_indexed_row, store_indexed_update_row};
-ghost use Rattle.ppc_parts.specs.Meanings.{IsOwned, EffectOwned, values_of, effect_of};
+ghost use Rattle.ppc_parts.specs.Meanings.{IsOwned, values_of, GivesEffect};
 ghost use Rattle.ppc_memory.specs.StoreTerms.{store_row_term, store_update_row_term, store_indexed_row_term, store_indexed_update_row_term};
 
 use crate::accesses::{half_reversed, low_byte, low_half, reversed, store, store_update};
@@ -19,14 +20,10 @@ pub fn store_row<A: Alg>(
     from: &GuestIn<A>,
 ) -> Result<Effect<A>, NoMemory>
     requires owned { IsOwned A.word_reach (A.extent alg.old) from.now }
-    ensures grows { A.extent alg.old ≤ A.extent alg.new }
-    ensures earlier { (v : ℕ → Bool) → A.admits alg.new v → A.admits alg.old v }
-    ensures opaque { A.opaque alg.new ≡ A.opaque alg.old }
-    ensures made { IfOk result (λ r. r ≡ (store_row_term A.ops op a (A.held alg.old) from.now).effect) }
-    ensures held { OnOk result (A.held alg.new ≡ (store_row_term A.ops op a (A.held alg.old) from.now).held) }
+    ensures later { IsLater A.Alg alg.old alg.new }
+    ensures makes { IfOk result (λ r. record { effect = r; held = A.held alg.new } ≡ store_row_term A.ops op a (A.held alg.old) from.now) }
     ensures fails { OnErr result (IsTrue A.takes_memory) }
-    ensures owned { IfOk result (λ r. EffectOwned A.word_reach A.flag_reach (A.extent alg.new) r) }
-    ensures means { IfOk result (λ r. (v : ℕ → Bool) → A.admits alg.new v → effect_of (λ w. A.word w v) (λ b. A.truth b v) r ≡ store_row op a (values_of (λ w. A.word w v) from.now)) }
+    ensures gives { IfOk result (λ r. GivesEffect A.Alg alg.new r (λ v. store_row op a (values_of (λ w. A.word w v) from.now))) }
 {
     let base = base(alg, a, from);
     let byte = low_byte(alg, from.s);
@@ -46,14 +43,10 @@ pub fn store_update_row<A: Alg>(
     from: &GuestIn<A>,
 ) -> Result<Effect<A>, NoMemory>
     requires owned { IsOwned A.word_reach (A.extent alg.old) from.now }
-    ensures grows { A.extent alg.old ≤ A.extent alg.new }
-    ensures earlier { (v : ℕ → Bool) → A.admits alg.new v → A.admits alg.old v }
-    ensures opaque { A.opaque alg.new ≡ A.opaque alg.old }
-    ensures made { IfOk result (λ r. r ≡ (store_update_row_term A.ops op (A.held alg.old) from.now).effect) }
-    ensures held { OnOk result (A.held alg.new ≡ (store_update_row_term A.ops op (A.held alg.old) from.now).held) }
+    ensures later { IsLater A.Alg alg.old alg.new }
+    ensures makes { IfOk result (λ r. record { effect = r; held = A.held alg.new } ≡ store_update_row_term A.ops op (A.held alg.old) from.now) }
     ensures fails { OnErr result (IsTrue A.takes_memory) }
-    ensures owned { IfOk result (λ r. EffectOwned A.word_reach A.flag_reach (A.extent alg.new) r) }
-    ensures means { IfOk result (λ r. (v : ℕ → Bool) → A.admits alg.new v → effect_of (λ w. A.word w v) (λ b. A.truth b v) r ≡ store_update_row op (values_of (λ w. A.word w v) from.now)) }
+    ensures gives { IfOk result (λ r. GivesEffect A.Alg alg.new r (λ v. store_update_row op (values_of (λ w. A.word w v) from.now))) }
 {
     let byte = low_byte(alg, from.s);
     let half = low_half(alg, from.s);
@@ -73,14 +66,10 @@ pub fn store_indexed_row<A: Alg>(
     from: &GuestIn<A>,
 ) -> Result<Effect<A>, NoMemory>
     requires owned { IsOwned A.word_reach (A.extent alg.old) from.now }
-    ensures grows { A.extent alg.old ≤ A.extent alg.new }
-    ensures earlier { (v : ℕ → Bool) → A.admits alg.new v → A.admits alg.old v }
-    ensures opaque { A.opaque alg.new ≡ A.opaque alg.old }
-    ensures made { IfOk result (λ r. r ≡ (store_indexed_row_term A.ops op a (A.held alg.old) from.now).effect) }
-    ensures held { OnOk result (A.held alg.new ≡ (store_indexed_row_term A.ops op a (A.held alg.old) from.now).held) }
+    ensures later { IsLater A.Alg alg.old alg.new }
+    ensures makes { IfOk result (λ r. record { effect = r; held = A.held alg.new } ≡ store_indexed_row_term A.ops op a (A.held alg.old) from.now) }
     ensures fails { OnErr result (IsTrue A.takes_memory) }
-    ensures owned { IfOk result (λ r. EffectOwned A.word_reach A.flag_reach (A.extent alg.new) r) }
-    ensures means { IfOk result (λ r. (v : ℕ → Bool) → A.admits alg.new v → effect_of (λ w. A.word w v) (λ b. A.truth b v) r ≡ store_indexed_row op a (values_of (λ w. A.word w v) from.now)) }
+    ensures gives { IfOk result (λ r. GivesEffect A.Alg alg.new r (λ v. store_indexed_row op a (values_of (λ w. A.word w v) from.now))) }
 {
     let base = base(alg, a, from);
     let byte = low_byte(alg, from.s);
@@ -104,14 +93,10 @@ pub fn store_indexed_update_row<A: Alg>(
     from: &GuestIn<A>,
 ) -> Result<Effect<A>, NoMemory>
     requires owned { IsOwned A.word_reach (A.extent alg.old) from.now }
-    ensures grows { A.extent alg.old ≤ A.extent alg.new }
-    ensures earlier { (v : ℕ → Bool) → A.admits alg.new v → A.admits alg.old v }
-    ensures opaque { A.opaque alg.new ≡ A.opaque alg.old }
-    ensures made { IfOk result (λ r. r ≡ (store_indexed_update_row_term A.ops op (A.held alg.old) from.now).effect) }
-    ensures held { OnOk result (A.held alg.new ≡ (store_indexed_update_row_term A.ops op (A.held alg.old) from.now).held) }
+    ensures later { IsLater A.Alg alg.old alg.new }
+    ensures makes { IfOk result (λ r. record { effect = r; held = A.held alg.new } ≡ store_indexed_update_row_term A.ops op (A.held alg.old) from.now) }
     ensures fails { OnErr result (IsTrue A.takes_memory) }
-    ensures owned { IfOk result (λ r. EffectOwned A.word_reach A.flag_reach (A.extent alg.new) r) }
-    ensures means { IfOk result (λ r. (v : ℕ → Bool) → A.admits alg.new v → effect_of (λ w. A.word w v) (λ b. A.truth b v) r ≡ store_indexed_update_row op (values_of (λ w. A.word w v) from.now)) }
+    ensures gives { IfOk result (λ r. GivesEffect A.Alg alg.new r (λ v. store_indexed_update_row op (values_of (λ w. A.word w v) from.now))) }
 {
     let byte = low_byte(alg, from.s);
     let half = low_half(alg, from.s);
