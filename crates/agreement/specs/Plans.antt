@@ -12,16 +12,16 @@ use Rattle.machines.specs.Files.{Agrees}
 use Rattle.machines.specs.Readings.{Fetched, ReadsWords, ReadsOps}
 use Rattle.code_layout.specs.Places.{entry_of}
 use Rattle.code_words.specs.Words.{HasWords, first_of}
-use Rattle.simulation.specs.Setting.{Setting, JumpsTo, LiveIsEnough}
+use Rattle.simulation.specs.Context.{SimulationContext, JumpsTo, LiveIsEnough}
 use Rattle.simulation.specs.Plan.{DoorAt}
-use Rattle.laid_code.specs.Instance.{code_start, Interface, setting_of}
+use Rattle.laid_code.specs.Instance.{code_start, Interface, context_of}
 use Rattle.laid_code.specs.Laws.{AreAddresses, IsBlockOrOff}
 use Rattle.upkeep.specs.Loaded.{HaveBytes}
 use Rattle.upkeep.specs.Written.{IsWritten}
 
--- In a setting what isn't live makes no difference; the block of each code word's plan stands where edges to it lead, and
+-- In a context what isn't live makes no difference; the block of each code word's plan stands where edges to it lead, and
 -- the table leads to it at once or by an adapter; and `hold` is a jump to itself.
-pub record HasPlans (s : Setting) : Type 0 where
+pub record HasPlans (s : SimulationContext) : Type 0 where
   pub live : LiveIsEnough s
   pub blocks : (w : ℕ) → IsBlockOrOff s w
   pub doors : (w : ℕ) → DoorAt s w
@@ -42,7 +42,7 @@ pub record CarriesPlans (interface : Interface) (P Q : Program) : Type 0 where
   pub count : length entries ≡ length words
   pub low : AreAddresses entries
   pub start : Q.entry ≡ entry_of (first_of P) entries (code_start area) P.entry
-  pub plans : (reading : ℕ → Option Instr) (ops : List ℕ → Option Fetched) → ReadsWords reading → ReadsOps ops → HasPlans (setting_of interface targets reading ops P Q (first_of P) area entries)
+  pub plans : (reading : ℕ → Option Instr) (ops : List ℕ → Option Fetched) → ReadsWords reading → ReadsOps ops → HasPlans (context_of interface targets reading ops P Q (first_of P) area entries)
 
 -- Under whatever interface a program carries the plans of another, it agrees with it, and so does a file that is loaded as it.
 abbrev pub PlansAgree : Type 0

@@ -11,7 +11,7 @@ use Rattle.machines.specs.Guest.{behind, executes}
 use Rattle.symbolic_tiles.specs.Row.{window_of, WritesHeld}
 use Rattle.symbolic_tiles.specs.Flow.{Fits, FlowDoesWord, flow}
 use Rattle.symbolic_tiles.specs.Marks.{AreMarked}
-use Rattle.simulation.specs.Setting.{Setting, IsWordAt}
+use Rattle.simulation.specs.Context.{SimulationContext, IsWordAt}
 use Rattle.simulation.specs.Plan.{PlanStep, Tile, FlowTile, word_count, room, HasFewMoves}
 use Rattle.code_layout.specs.Decoded.{IsLegalDecoded}
 use Rattle.code_layout.specs.Places.{no_registers}
@@ -102,7 +102,7 @@ steps_few at (Some i ∷ words) = by_flow (is_flow i) (steps_few (behind at) wor
     by_flow true e = (omega arith, tt)
     by_flow false e = (let r = steps_room (behind at) words in omega (arith, r), e)
 
-module _ (s : Setting) (writes_held : WritesHeld s.guest) where
+module _ (s : SimulationContext) (writes_held : WritesHeld s.guest) where
   -- from a guest address on stand these words, as far as they are fetched
   abbrev pub AreFetched : ℕ → List (Option Instr) → Type 0
   AreFetched at [] = Unit {0}

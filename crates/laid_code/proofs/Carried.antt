@@ -16,14 +16,14 @@ use Rattle.machines.specs.Memory.{rights_of, code_of}
 use Rattle.machines.specs.Readings.{Fetched, ReadsWords, ReadsOps}
 use Rattle.machines.specs.Guest.{behind, is_code_word, code_word, executes}
 use Rattle.symbolic_tiles.proofs.PlaceLaws.{programs_write_held}
-use Rattle.simulation.specs.Setting.{Setting, IsWordAt, IsOffCode, JumpsTo}
+use Rattle.simulation.specs.Context.{SimulationContext, IsWordAt, IsOffCode, JumpsTo}
 use Rattle.simulation.specs.Plan.{PlanStep, BlockAt, Begins}
 use Rattle.code_layout.specs.Decoded.{IsDecodedAs, decoded_at, IsLegalDecoded}
 use Rattle.code_layout.specs.Places.{no_registers, no_moves, place_of, entry_of, Places, places_in}
 use Rattle.code_layout.specs.Code.{block_items, items_bytes}
 use Rattle.code_layout.specs.Layout.{words_of, items_of, blocks_bytes, BeginsAt}
 use Rattle.laid_code.specs.Bytes.{HasBytes, RunsCode}
-use Rattle.laid_code.specs.Instance.{code_start, Interface, without_registers, setting_of, laid_setting, HasWords, HasCodeFor}
+use Rattle.laid_code.specs.Instance.{code_start, Interface, without_registers, context_of, laid_context, HasWords, HasCodeFor}
 use Rattle.laid_code.specs.Items.{ArePlaced}
 use Rattle.laid_code.specs.Laws.{IsBlockOrOff, BlocksStand, HoldStands, EntriesAreAddresses}
 use Rattle.laid_code.specs.Plans.{plan_items}
@@ -102,8 +102,8 @@ module _ (Q : Program) (first entry : ℕ) (words : List ℕ) (area : ℕ) (tabl
       entry_or_hold first table (code_start area) (λ t. t < 2 ^ 32) address (omega (arith, low)) (λ k lt e. entry_low k (omega (arith, lt, count)))
 
   module _ (interface : Interface) (reading : ℕ → Option Instr) (ops : List ℕ → Option Fetched) (P : Program) (reads_ops : ReadsOps ops) where
-    abbrev held_in : (ℕ → ℕ) → Setting
-    held_in to = setting_of interface to reading ops P Q first area table
+    abbrev held_in : (ℕ → ℕ) → SimulationContext
+    held_in to = context_of interface to reading ops P Q first area table
 
     runs : (to : ℕ → ℕ) → RunsCode (held_in to) (code_of Q) ops
     runs to = record { reads = reads_ops; low = low; steps = λ h. refl }
@@ -115,8 +115,8 @@ module _ (Q : Program) (first entry : ℕ) (words : List ℕ) (area : ℕ) (tabl
         jump_leads (held_in to) (code_of Q) ops (code_start area) (code_start area) (runs to) (omega (arith, low)) (subst (λ (r : ℕ). HasBytes (code_of Q) (code_start area) (spelling (Jmp r))) rel (first_bytes_at (code_of Q) (code_start area) (spelling (Jmp (2 ^ 32 - 5))) all_bytes holding))
 
   module _ (each_is_block : EachIsBlock) (live : ℕ → ℕ → Bool) (reading : ℕ → Option Instr) (ops : List ℕ → Option Fetched) (P : Program) (reads_ops : ReadsOps ops) (reads_words : ReadsWords reading) (has : HasWords P first words) where
-    abbrev s : Setting
-    s = laid_setting live reading ops P Q first area table
+    abbrev s : SimulationContext
+    s = laid_context live reading ops P Q first area table
 
     are_placed : ArePlaced s
     are_placed =

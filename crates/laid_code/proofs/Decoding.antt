@@ -12,8 +12,8 @@ use Rattle.runs.specs.Machine.{Goes, Ends}
 use Rattle.machines.specs.Memory.{Code, is_code}
 use Rattle.machines.specs.Readings.{Fetched}
 use Rattle.machines.specs.Host.{acts, executes, op_bytes}
-use Rattle.symbolic_tiles.specs.Standing.{StandsAt}
-use Rattle.simulation.specs.Setting.{Setting, JumpsTo}
+use Rattle.symbolic_tiles.specs.Standing.{OpAt}
+use Rattle.simulation.specs.Context.{SimulationContext, JumpsTo}
 use Rattle.laid_code.specs.Bytes.{HasBytes, RunsCode}
 
 pub first_bytes_at : (code : Code) (here : ℕ) (x y : List ℕ) → HasBytes code here (x ++ y) → HasBytes code here x
@@ -72,10 +72,10 @@ bytes_end_low code here bytes low h =
     let long : length code.bytes ≡ length h.before + (length bytes + length h.behind) = ap length h.cut ∙ length-append h.before (bytes ++ h.behind) ∙ ap (λ n. length h.before + n) (length-append bytes h.behind) in
     omega (arith, h.begins, long, low)
 
-pub ends_low : (s : Setting) (code : Code) (reading : List ℕ → Option Fetched) (here : ℕ) (bytes : List ℕ) → RunsCode s code reading → HasBytes code here bytes → here + length bytes < 2 ^ 32
+pub ends_low : (s : SimulationContext) (code : Code) (reading : List ℕ → Option Fetched) (here : ℕ) (bytes : List ℕ) → RunsCode s code reading → HasBytes code here bytes → here + length bytes < 2 ^ 32
 ends_low s code reading here bytes runs h = bytes_end_low code here bytes runs.low h
 
-pub spelling_stands : (s : Setting) (code : Code) (reading : List ℕ → Option Fetched) (here : ℕ) (op : Op) → RunsCode s code reading → IsInProfile op → HasBytes code here (spelling op) → StandsAt s.host s.host_step here op (here + length (spelling op))
+pub spelling_stands : (s : SimulationContext) (code : Code) (reading : List ℕ → Option Fetched) (here : ℕ) (op : Op) → RunsCode s code reading → IsInProfile op → HasBytes code here (spelling op) → OpAt s.host s.host_step here op (here + length (spelling op))
 spelling_stands s code reading here op runs ok has h at =
     let fetched : reading (op_bytes code here) ≡ Some (record { op = op; len = length (spelling op) }) = ap reading (seen code here (spelling op) has) ∙ runs.reads.only _ (record { op = op; len = length (spelling op) }) (spelt_in_twelve op has.behind ok) in
     let low : (here + length (spelling op)) % 2 ^ 32 ≡ here + length (spelling op) = omega (arith, ends_low s code reading here (spelling op) runs has) in
@@ -86,7 +86,7 @@ spelling_stands s code reading here op runs ok has h at =
     ∙ ap (λ (a : ℕ). acts s.host op ((a + length (spelling op)) % 2 ^ 32) h) at
     ∙ ap (λ (a : ℕ). acts s.host op a h) low
 
-pub jump_leads : (s : Setting) (code : Code) (reading : List ℕ → Option Fetched) (here target : ℕ) → RunsCode s code reading → target < 2 ^ 32 → HasBytes code here (spelling (Jmp ((target + (2 ^ 32 - (here + 5))) % 2 ^ 32))) → JumpsTo s here target
+pub jump_leads : (s : SimulationContext) (code : Code) (reading : List ℕ → Option Fetched) (here target : ℕ) → RunsCode s code reading → target < 2 ^ 32 → HasBytes code here (spelling (Jmp ((target + (2 ^ 32 - (here + 5))) % 2 ^ 32))) → JumpsTo s here target
 jump_leads s code reading here target runs low has h at =
     let rel : ℕ = (target + (2 ^ 32 - (here + 5))) % 2 ^ 32 in
     let behind : here + 5 < 2 ^ 32 = ends_low s code reading here (spelling (Jmp rel)) runs has in

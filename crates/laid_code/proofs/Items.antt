@@ -19,8 +19,8 @@ use Rattle.machines.specs.Memory.{Code}
 use Rattle.machines.specs.Readings.{Fetched}
 use Rattle.machines.specs.Host.{Host}
 use Rattle.symbolic_tiles.specs.Flow.{is_taken}
-use Rattle.symbolic_tiles.specs.Standing.{StandsAt, StandAt, EdgeCode, ItemsAt}
-use Rattle.simulation.specs.Setting.{Setting}
+use Rattle.symbolic_tiles.specs.Standing.{OpAt, OpsAt, EdgeCode, ItemsAt}
+use Rattle.simulation.specs.Context.{SimulationContext}
 use Rattle.simulation.specs.Plan.{SwitchAt, EdgeAt, LeapAt}
 use Rattle.code_layout.specs.Leap.{leap_ops}
 use Rattle.code_layout.specs.Places.{Moves}
@@ -128,7 +128,7 @@ leap_first x xs = (0, omega arith, refl)
 leap_behind : (x y : ℕ) (xs : List ℕ) → Contains xs y → Contains (x ∷ xs) y
 leap_behind x y xs h = (suc h.0, omega (arith, h.1), h.2)
 
-module _ (s : Setting) (code : Code) (reading : List ℕ → Option Fetched) (switch : ℕ → Moves) (runs : RunsCode s code reading) where
+module _ (s : SimulationContext) (code : Code) (reading : List ℕ → Option Fetched) (switch : ℕ → Moves) (runs : RunsCode s code reading) where
   -- a jump at an address, from the bytes of its op
   by_condition : (here number label : ℕ) (rel : ℕ) (c : Condition) → rel < 2 ^ 32 → label < 2 ^ 32 → number ≡ condition_number c → HasBytes code here (spelling (Jcc c rel)) → label ≡ here + 6 + rel →
       (h : Host) → h.eip ≡ here → s.host_step h ≡ Goes (record { core = h.core; eip = cond (is_taken number h.core.flags) label (here + 6); choices = drop 1 h.choices })
@@ -177,10 +177,10 @@ module _ (s : Setting) (code : Code) (reading : List ℕ → Option Fetched) (sw
       let same : here + 0 ≡ here = omega arith in
       subst (λ (a : ℕ). HasBytes code a (items_bytes (places_of s switch) a items)) same (other_items here (Mark mark) items h)
 
-  pub op_at_place : (here : ℕ) (op : Op) (rest : List FlowOp) → s.area + 4096 ≤ 2 ^ 32 → IsLaid (Plain op) → HasBytes code here (items_bytes (places_of s switch) here (Plain op ∷ rest)) → StandsAt s.host s.host_step here (op_at s.area op) (here + item_length switch (Plain op))
+  pub op_at_place : (here : ℕ) (op : Op) (rest : List FlowOp) → s.area + 4096 ≤ 2 ^ 32 → IsLaid (Plain op) → HasBytes code here (items_bytes (places_of s switch) here (Plain op ∷ rest)) → OpAt s.host s.host_step here (op_at s.area op) (here + item_length switch (Plain op))
   op_at_place here op rest low laid h =
-      let stands : StandsAt s.host s.host_step here (op_at s.area op) (here + length (spelling (op_at s.area op))) = spelling_stands s code reading here (op_at s.area op) runs (laid s.area low) (first_item here (Plain op) rest h) in
-      subst (λ (n : ℕ). StandsAt s.host s.host_step here (op_at s.area op) (here + n)) (placed_length s.area op) stands
+      let stands : OpAt s.host s.host_step here (op_at s.area op) (here + length (spelling (op_at s.area op))) = spelling_stands s code reading here (op_at s.area op) runs (laid s.area low) (first_item here (Plain op) rest h) in
+      subst (λ (n : ℕ). OpAt s.host s.host_step here (op_at s.area op) (here + n)) (placed_length s.area op) stands
 
   pub jump_at_place : (here number mark label : ℕ) (rest : List FlowOp) → IsJumpCode number → label ≡ here + item_length switch (Jump number mark) + before_mark switch rest mark → HasBytes code here (items_bytes (places_of s switch) here (Jump number mark ∷ rest)) →
       (h : Host) → h.eip ≡ here → s.host_step h ≡ Goes (record { core = h.core; eip = cond (is_taken number h.core.flags) label (here + item_length switch (Jump number mark)); choices = drop 1 h.choices })
@@ -239,16 +239,16 @@ spelled_lengths : (xs ys : List Op) → length (spelled (xs ++ ys)) ≡ length (
 spelled_lengths [] ys = omega arith
 spelled_lengths (op ∷ xs) ys = length-append (spelling op) (spelled (xs ++ ys)) ∙ ap (λ k. length (spelling op) + k) (spelled_lengths xs ys) ∙ let e = length-append (spelling op) (spelled xs) in omega (arith, e)
 
-module _ (s : Setting) (code : Code) (reading : List ℕ → Option Fetched) (runs : RunsCode s code reading) where
+module _ (s : SimulationContext) (code : Code) (reading : List ℕ → Option Fetched) (runs : RunsCode s code reading) where
   -- ops that aren't placed
-  absolute_stand : (here : ℕ) (ops : List Op) → AreInProfile ops → HasBytes code here (spelled ops) → StandAt s.host s.host_step here ops (here + length (spelled ops))
+  absolute_stand : (here : ℕ) (ops : List Op) → AreInProfile ops → HasBytes code here (spelled ops) → OpsAt s.host s.host_step here ops (here + length (spelled ops))
   absolute_stand here [] ok has = omega arith
   absolute_stand here (op ∷ ops) ok has =
       let long = length-append (spelling op) (spelled ops) in
       let e : here + length (spelling op) + length (spelled ops) ≡ here + length (spelling op ++ spelled ops) = omega (arith, long) in (
         here + length (spelling op),
         spelling_stands s code reading here op runs ok.0 (first_bytes_at code here (spelling op) (spelled ops) has),
-        subst (StandAt s.host s.host_step (here + length (spelling op)) ops) e (absolute_stand (here + length (spelling op)) ops ok.1 (next_bytes_at code here (spelling op) (spelled ops) has)),
+        subst (OpsAt s.host s.host_step (here + length (spelling op)) ops) e (absolute_stand (here + length (spelling op)) ops ok.1 (next_bytes_at code here (spelling op) (spelled ops) has)),
       )
 
   -- where the bytes of an edge stand, its switch stands
@@ -278,7 +278,7 @@ module _ (s : Setting) (code : Code) (reading : List ℕ → Option Fetched) (ru
       in_profile [] h = tt
       in_profile (x ∷ xs) h = (h.0 s.area page, in_profile xs h.1)
 
-module _ (s : Setting) (map : Map) (code : Code) (reading : List ℕ → Option Fetched) (switch : ℕ → Moves) (runs : RunsCode s code reading) (page : s.area + 4096 ≤ 2 ^ 32) (bounded : (address : ℕ) → s.target address < 2 ^ 32) (switches : AreSwitches s map switch) where
+module _ (s : SimulationContext) (map : Map) (code : Code) (reading : List ℕ → Option Fetched) (switch : ℕ → Moves) (runs : RunsCode s code reading) (page : s.area + 4096 ≤ 2 ^ 32) (bounded : (address : ℕ) → s.target address < 2 ^ 32) (switches : AreSwitches s map switch) where
   pub edge_stands : (next here : ℕ) → HasBytes code here (edge_bytes s.area (moves_ops (switch next)) (s.target next) here) → EdgeAt s map next here
   edge_stands next here has = (maps_of (switch next), subst (λ n. n ≤ 6) (sym (length_maps (switch next))) (switches next).0, switch_stands s code reading runs next here map (switch next) page (bounded next) (switches next).1 has)
 
@@ -297,7 +297,7 @@ module _ (s : Setting) (map : Map) (code : Code) (reading : List ℕ → Option 
       (edge_stands target here (first_item s code reading switch runs here (Edge target) items h))
       (edges_jump (here + item_length switch (Edge target)) items (other_items s code reading switch runs here (Edge target) items h) e) c
 
-module _ (s : Setting) (code : Code) (reading : List ℕ → Option Fetched) (switch : ℕ → Moves) (runs : RunsCode s code reading) (first_word : s.first < 2 ^ 32) (count_word : 4 * s.count < 2 ^ 32) (table_word : s.table < 2 ^ 32) (hold_word : s.hold < 2 ^ 32) where
+module _ (s : SimulationContext) (code : Code) (reading : List ℕ → Option Fetched) (switch : ℕ → Moves) (runs : RunsCode s code reading) (first_word : s.first < 2 ^ 32) (count_word : 4 * s.count < 2 ^ 32) (table_word : s.table < 2 ^ 32) (hold_word : s.hold < 2 ^ 32) where
   -- where the bytes of the indirect sequence stand, it stands
   leap_stands : (here : ℕ) → HasBytes code here (leap_bytes (places_of s switch) here) → LeapAt s here
   leap_stands here has =

@@ -9,11 +9,11 @@ use Rattle.symbolic_tiles.specs.declared.flow_op.FlowOp.TheVariants.{Plain, Jump
 use Rattle.runs.specs.Machine.{Goes}
 use Rattle.machines.specs.Memory.{Code}
 use Rattle.machines.specs.Readings.{Fetched}
-use Rattle.symbolic_tiles.specs.Standing.{StandAt}
+use Rattle.symbolic_tiles.specs.Standing.{OpsAt}
 use Rattle.code_layout.specs.Places.{Moves}
 use Rattle.code_layout.specs.Code.{ops_at, item_length, items_length, before_mark, items_bytes}
 use Rattle.simulation.specs.Windows.{behind_all}
-use Rattle.simulation.specs.Setting.{Setting, ForksAt}
+use Rattle.simulation.specs.Context.{SimulationContext, ForksAt}
 use Rattle.simulation.specs.Plan.{PlanStep, Move, Tile, BranchTile, FlowTile, EdgeAt, BlockAt}
 use Rattle.laid_code.specs.Bytes.{HasBytes, RunsCode}
 use Rattle.laid_code.specs.Items.{ArePlaceable, labels_of, edges_of, leaps_of, places_of, AreSwitches, ArePlaced}
@@ -30,10 +30,10 @@ leap_among switch here (Jump number mark ∷ items) a c = let r = leap_among swi
 leap_among switch here (Mark mark ∷ items) a c = let r = leap_among switch here items a c in (suc r.0, omega (arith, r.1), r.2)
 leap_among switch here (Edge target ∷ items) a c = let r = leap_among switch (here + item_length switch (Edge target)) items a c in (suc r.0, omega (arith, r.1), r.2)
 
-module _ (s : Setting) (switch : ℕ → Moves) (code : Code) (reading : List ℕ → Option Fetched) (runs : RunsCode s code reading) (placed : ArePlaced s) where
+module _ (s : SimulationContext) (switch : ℕ → Moves) (code : Code) (reading : List ℕ → Option Fetched) (runs : RunsCode s code reading) (placed : ArePlaced s) where
   -- ops before other items
   pub plain_stand : (ops : List Op) (rest : List FlowOp) (here : ℕ) → ArePlaceable ops → HasBytes code here (items_bytes (places_of s switch) here (plain ops ++ rest)) →
-      (end : ℕ) × StandAt s.host s.host_step here (ops_at s.area ops) end × HasBytes code end (items_bytes (places_of s switch) end rest) × (here + items_length switch (plain ops ++ rest) ≡ end + items_length switch rest)
+      (end : ℕ) × OpsAt s.host s.host_step here (ops_at s.area ops) end × HasBytes code end (items_bytes (places_of s switch) end rest) × (here + items_length switch (plain ops ++ rest) ≡ end + items_length switch rest)
   unfolding items_length
   plain_stand [] rest here ok h = (here, refl, h, refl)
   plain_stand (op ∷ ops) rest here ok h =

@@ -7,7 +7,7 @@ use Rattle.machines.specs.Memory.{Rights}
 use Rattle.machines.specs.Guest.{Guest, behind, acts, effect_of}
 use Rattle.row_laws.specs.FlowWords.{is_flow}
 use Rattle.base_flow.specs.Tile.{tile as flow_tile}
-use Rattle.symbolic_tiles.specs.Row.{window_of, DoWindow}
+use Rattle.symbolic_tiles.specs.Row.{window_of, Implements}
 use Rattle.symbolic_tiles.specs.Row.{WritesHeld}
 use Rattle.symbolic_tiles.specs.Flow.{FlowDoesWord}
 use Rattle.symbolic_tiles.specs.Straight.{IsStraight}
@@ -17,7 +17,7 @@ use Rattle.code_layout.proofs.BlockItems.{flows_laid}
 use Rattle.base_flow.proofs.Tiles.{flow_tiles_are_laid, flow_tiles_do_rows, flow_tiles_are_marked}
 use Rattle.symbolic_tiles.proofs.Straight.{rows_are_straight, accesses_are_inside}
 use Rattle.simulation.specs.Windows.{rows_of, IsQuiet}
-use Rattle.simulation.specs.Setting.{Setting, IsWordAt}
+use Rattle.simulation.specs.Context.{SimulationContext, IsWordAt}
 use Rattle.simulation.specs.Plan.{IsTile, LeadsTo}
 use Rattle.code_layout.specs.Places.{no_registers}
 use Rattle.code_layout.specs.Code.{word_ops, ops_at, IsLaid, IsPlaceable}
@@ -35,7 +35,7 @@ pub record IsStraightWord (i : Instr) : Type 0 where
   pub straight : is_flow i ≡ false
   pub few : length (word_ops i no_registers) ≤ 128
   pub placeable : ArePlaceable (word_ops i no_registers)
-  pub does : (area : ℕ) → DoWindow (window_of i) no_registers area (ops_at area (word_ops i no_registers))
+  pub does : (area : ℕ) → Implements (window_of i) no_registers area (ops_at area (word_ops i no_registers))
 
 -- a flow word, with a tile of items
 pub record IsFlowingWord (i : Instr) : Type 0 where
@@ -56,7 +56,7 @@ quiet_if_straight next (Goes g) h = tt
 quiet_if_straight next (Asks call after) h = h
 quiet_if_straight next (Ends e) h = h
 
-module _ (s : Setting) (writes_held : WritesHeld s.guest) (i : Instr) (word : IsStraightWord i) where
+module _ (s : SimulationContext) (writes_held : WritesHeld s.guest) (i : Instr) (word : IsStraightWord i) where
   row_is : (g : Guest) → (window_of i).outcome s.guest g ≡ rows_of s.guest (i ∷ []) g
   row_is g = one_row (acts s.guest i (effect_of i g) g) s.guest i g refl
 

@@ -3,7 +3,7 @@ use Rattle.std.specs.Prelude.{◌≡◌, ℕ, ◌+◌, ◌^◌, ◌<◌, List, �
 use Rattle.machines.specs.Memory.{Code}
 use Rattle.machines.specs.Readings.{Fetched, ReadsOps}
 use Rattle.machines.specs.Host.{Host, host_step}
-use Rattle.simulation.specs.Setting.{Setting}
+use Rattle.simulation.specs.Context.{SimulationContext}
 
 -- these bytes stand in the code from an address on
 pub record HasBytes (code : Code) (here : ℕ) (bytes : List ℕ) : Type 0 where
@@ -12,8 +12,8 @@ pub record HasBytes (code : Code) (here : ℕ) (bytes : List ℕ) : Type 0 where
   pub cut : code.bytes ≡ before ++ (bytes ++ behind)
   pub begins : here ≡ code.at + length before
 
--- the setting's host runs this code, which lies below 2^32, by a reading of bytes
-pub record RunsCode (s : Setting) (code : Code) (reading : List ℕ → Option Fetched) : Type 0 where
+-- the context's host runs this code, which lies below 2^32, by a reading of bytes
+pub record RunsCode (s : SimulationContext) (code : Code) (reading : List ℕ → Option Fetched) : Type 0 where
   pub reads : ReadsOps reading
   pub low : code.at + length code.bytes < 2 ^ 32
   pub steps : (h : Host) → s.host_step h ≡ host_step s.host code reading h

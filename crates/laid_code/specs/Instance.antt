@@ -1,4 +1,4 @@
--- The setting of a program and of the program that was written for it. This project's own.
+-- The context of a program and of the program that was written for it. This project's own.
 use Rattle.std.specs.Prelude.{◌≡◌, ℕ, ◌+◌, ◌*◌, ◌^◌, ◌<◌, ◌≤◌, Bool, true, false, List, length, get_or, Option}
 use Rattle.std.specs.List.{flat_map}
 use Rattle.byteorder.specs.Endian.{little_bytes}
@@ -10,7 +10,7 @@ use Rattle.machines.specs.Readings.{Fetched}
 use Rattle.machines.specs.Guest.{guest_machine}
 use Rattle.machines.specs.Agreement.{without, narrow_machine}
 pub use Rattle.code_words.specs.Words.{HasWords}
-use Rattle.simulation.specs.Setting.{Setting}
+use Rattle.simulation.specs.Context.{SimulationContext}
 use Rattle.code_layout.specs.Places.{no_registers, entry_of}
 use Rattle.code_layout.specs.Layout.{IsCodeFor}
 
@@ -30,8 +30,8 @@ pub record Interface : Type 0 where
 
 -- The guest runs P. The host runs Q, where no byte of its code is read as data. Edges lead where `targets` says, and the
 -- indirect sequence where the table says.
-abbrev pub setting_of : Interface → (ℕ → ℕ) → (ℕ → Option Instr) → (List ℕ → Option Fetched) → Program → Program → ℕ → ℕ → List ℕ → Setting
-setting_of interface targets words ops P Q first area table = record {
+abbrev pub context_of : Interface → (ℕ → ℕ) → (ℕ → Option Instr) → (List ℕ → Option Fetched) → Program → Program → ℕ → ℕ → List ℕ → SimulationContext
+context_of interface targets words ops P Q first area table = record {
   guest = rights_of P;
   host = without (code_of Q) (rights_of Q);
   area = area;
@@ -53,8 +53,8 @@ abbrev pub without_registers : (ℕ → ℕ → Bool) → Interface
 without_registers live = record { entry_map = λ w. no_registers; live = live }
 
 -- so the words' code is laid out, whatever is live: edges, too, lead where the table says
-abbrev pub laid_setting : (ℕ → ℕ → Bool) → (ℕ → Option Instr) → (List ℕ → Option Fetched) → Program → Program → ℕ → ℕ → List ℕ → Setting
-laid_setting live words ops P Q first area table = setting_of (without_registers live) (entry_of first table (code_start area)) words ops P Q first area table
+abbrev pub laid_context : (ℕ → ℕ → Bool) → (ℕ → Option Instr) → (List ℕ → Option Fetched) → Program → Program → ℕ → ℕ → List ℕ → SimulationContext
+laid_context live words ops P Q first area table = context_of (without_registers live) (entry_of first table (code_start area)) words ops P Q first area table
 
 -- the code of Q is that of these words' blocks, by this table, and lies below 2^32
 pub record HasCodeFor (Q : Program) (first entry : ℕ) (words : List ℕ) (area : ℕ) (table : List ℕ) : Type 0 where
@@ -63,8 +63,8 @@ pub record HasCodeFor (Q : Program) (first entry : ℕ) (words : List ℕ) (area
   pub count : length table ≡ length words
   pub code : IsCodeFor first entry words area table (code_of Q).bytes
 
--- these words stand in the setting's table, which can be read and not written
-pub record HasTableOf (s : Setting) (entries : List ℕ) : Type 0 where
+-- these words stand in the context's table, which can be read and not written
+pub record HasTableOf (s : SimulationContext) (entries : List ℕ) : Type 0 where
   pub low : s.table + 4 * length entries ≤ 2 ^ 32
   pub held : (i : ℕ) → i < 4 * length entries → s.host.held (s.table + i) ≡ true
   pub unwritable : (i : ℕ) → i < 4 * length entries → s.host.writable (s.table + i) ≡ false

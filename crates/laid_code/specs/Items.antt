@@ -6,7 +6,7 @@ use Rattle.ppc_isa.specs.declared.map.Map.{Map}
 use Rattle.ia_codec.specs.declared.op.Op.{Op}
 use Rattle.code_layout.specs.Places.{Moves, Places}
 use Rattle.code_layout.specs.Code.{IsPlaceable, item_length, before_mark}
-use Rattle.simulation.specs.Setting.{Setting}
+use Rattle.simulation.specs.Context.{SimulationContext}
 use Rattle.simulation.specs.Plan.{IsMove}
 use Rattle.symbolic_tiles.specs.Standing.{EdgeCode}
 
@@ -33,21 +33,21 @@ leaps_of switch here (Leap ∷ items) = here ∷ leaps_of switch (here + item_le
 leaps_of switch here (Mark mark ∷ items) = leaps_of switch here items
 leaps_of switch here (item ∷ items) = leaps_of switch (here + item_length switch item) items
 
--- where the parts of a setting's file stand; edges lead to the blocks by these moves
-abbrev pub places_of : Setting → (ℕ → Moves) → Places
+-- where the parts of a context's file stand; edges lead to the blocks by these moves
+abbrev pub places_of : SimulationContext → (ℕ → Moves) → Places
 places_of s switch = record { area = s.area; hold = s.hold; table = s.table; first = s.first; count = s.count; targets = s.target; switch = switch }
 
 -- moves that lead from a map to the map under which the block at a guest address begins
-abbrev pub IsSwitch : Setting → ℕ → Map → Moves → Type 0
+abbrev pub IsSwitch : SimulationContext → ℕ → Map → Moves → Type 0
 IsSwitch s next map [] = map ≡ s.entry_map next
 IsSwitch s next map ((to, ops) ∷ moves) = IsMove s next map to ops × ArePlaceable ops × IsSwitch s next to moves
 
 -- from a map on, the switch to each guest address
-abbrev pub AreSwitches : Setting → Map → (ℕ → Moves) → Type 0
+abbrev pub AreSwitches : SimulationContext → Map → (ℕ → Moves) → Type 0
 AreSwitches s map switch = (next : ℕ) → (length (switch next) ≤ 6) × IsSwitch s next map (switch next)
 
--- the parts of a setting's file stand below 2^32
-pub record ArePlaced (s : Setting) : Type 0 where
+-- the parts of a context's file stand below 2^32
+pub record ArePlaced (s : SimulationContext) : Type 0 where
   pub area : s.area + 4096 ≤ 2 ^ 32
   pub hold : s.hold < 2 ^ 32
   pub table : s.table < 2 ^ 32

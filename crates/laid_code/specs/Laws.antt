@@ -9,33 +9,33 @@ use Rattle.ppc_isa.specs.declared.map.Map.{Map}
 use Rattle.ppc_isa.specs.declared.instr.Instr.{Instr}
 use Rattle.space.specs.declared.program.Program.{Program}
 use Rattle.machines.specs.Readings.{Fetched, ReadsWords, ReadsOps}
-use Rattle.symbolic_tiles.specs.Standing.{StandsAt, EdgeCode, ItemsAt}
-use Rattle.simulation.specs.Setting.{Setting, HasTable, IsOffCode, JumpsTo}
+use Rattle.symbolic_tiles.specs.Standing.{OpAt, EdgeCode, ItemsAt}
+use Rattle.simulation.specs.Context.{SimulationContext, HasTable, IsOffCode, JumpsTo}
 use Rattle.simulation.specs.Plan.{PlanStep, EdgeAt, LeapAt, BlockAt, Begins}
 use Rattle.code_layout.specs.Places.{Moves}
 use Rattle.code_layout.specs.Code.{IsLaid, items_bytes}
 use Rattle.symbolic_tiles.specs.Marks.{AreMarked}
 use Rattle.laid_code.specs.Bytes.{HasBytes, RunsCode}
-use Rattle.laid_code.specs.Instance.{code_start, Interface, setting_of, laid_setting, HasWords, HasCodeFor, HasTableOf}
+use Rattle.laid_code.specs.Instance.{code_start, Interface, context_of, laid_context, HasWords, HasCodeFor, HasTableOf}
 use Rattle.laid_code.specs.Items.{labels_of, edges_of, leaps_of, places_of, AreSwitches, ArePlaced}
 use Rattle.laid_code.specs.Plans.{plan_items, last_map, AreRight}
 
 -- Where an op's spelling stands, the op stands.
 abbrev pub SpellingsStand : Type 0
 SpellingsStand =
-    (s : Setting) (code : Code) (reading : List ℕ → Option Fetched) (here : ℕ) (op : Op) →
-    RunsCode s code reading → IsInProfile op → HasBytes code here (spelling op) → StandsAt s.host s.host_step here op (here + length (spelling op))
+    (s : SimulationContext) (code : Code) (reading : List ℕ → Option Fetched) (here : ℕ) (op : Op) →
+    RunsCode s code reading → IsInProfile op → HasBytes code here (spelling op) → OpAt s.host s.host_step here op (here + length (spelling op))
 
 -- A jump whose five bytes stand at an address leads to a target, from behind them on counted.
 abbrev pub JumpsLead : Type 0
 JumpsLead =
-    (s : Setting) (code : Code) (reading : List ℕ → Option Fetched) (here target : ℕ) →
+    (s : SimulationContext) (code : Code) (reading : List ℕ → Option Fetched) (here target : ℕ) →
     RunsCode s code reading → target < 2 ^ 32 → HasBytes code here (spelling (Jmp ((target + (2 ^ 32 - (here + 5))) % 2 ^ 32))) → JumpsTo s here target
 
 -- Where the bytes of items stand over the home page, the items stand, with their marks, edges and indirect sequences.
 abbrev pub ItemsStand : Type 0
 ItemsStand =
-    (s : Setting) (map : Map) (switch : ℕ → Moves) (code : Code) (reading : List ℕ → Option Fetched) (here : ℕ) (items : List FlowOp) →
+    (s : SimulationContext) (map : Map) (switch : ℕ → Moves) (code : Code) (reading : List ℕ → Option Fetched) (here : ℕ) (items : List FlowOp) →
     RunsCode s code reading → ArePlaced s → AreSwitches s map switch → All IsLaid items → AreMarked items → HasBytes code here (items_bytes (places_of s switch) here items) →
     ItemsAt s.host s.area s.host_step (labels_of switch here items) (edges_of switch here items) (leaps_of switch here items) here items
     × ((e : EdgeCode) → Contains (edges_of switch here items) e → EdgeAt s map e.target e.at)
@@ -45,25 +45,25 @@ ItemsStand =
 -- which the plan ends.
 abbrev pub PlansStand : Type 0
 PlansStand =
-    (s : Setting) (switch : ℕ → Moves) (code : Code) (reading : List ℕ → Option Fetched) (map : Map) (w here : ℕ) (steps : List PlanStep) →
+    (s : SimulationContext) (switch : ℕ → Moves) (code : Code) (reading : List ℕ → Option Fetched) (map : Map) (w here : ℕ) (steps : List PlanStep) →
     RunsCode s code reading → ArePlaced s → AreSwitches s (last_map map steps) switch → AreRight s map w steps → HasBytes code here (items_bytes (places_of s switch) here (plan_items w steps)) →
     BlockAt s map w here steps
 
 -- At an address the block of a code word begins; or no code word stands there, and edges to it lead to `hold`.
-abbrev pub IsBlockOrOff : Setting → ℕ → Type 0
+abbrev pub IsBlockOrOff : SimulationContext → ℕ → Type 0
 IsBlockOrOff s w = Begins s w ⊎ (IsOffCode s w × (s.target w ≡ s.hold))
 
 -- The code of the written program carries the block of each code word of P, whatever is live.
 abbrev pub BlocksStand : Type 0
 BlocksStand =
     (live : ℕ → ℕ → Bool) (reading : ℕ → Option Instr) (ops : List ℕ → Option Fetched) (P Q : Program) (first entry : ℕ) (words : List ℕ) (area : ℕ) (table : List ℕ) →
-    ReadsWords reading → ReadsOps ops → HasWords P first words → HasCodeFor Q first entry words area table → (w : ℕ) → IsBlockOrOff (laid_setting live reading ops P Q first area table) w
+    ReadsWords reading → ReadsOps ops → HasWords P first words → HasCodeFor Q first entry words area table → (w : ℕ) → IsBlockOrOff (laid_context live reading ops P Q first area table) w
 
 -- `hold` is a jump to itself, under every interface.
 abbrev pub HoldStands : Type 0
 HoldStands =
     (interface : Interface) (targets : ℕ → ℕ) (reading : ℕ → Option Instr) (ops : List ℕ → Option Fetched) (P Q : Program) (first entry : ℕ) (words : List ℕ) (area : ℕ) (table : List ℕ) →
-    ReadsOps ops → HasCodeFor Q first entry words area table → JumpsTo (setting_of interface targets reading ops P Q first area table) (code_start area) (code_start area)
+    ReadsOps ops → HasCodeFor Q first entry words area table → JumpsTo (context_of interface targets reading ops P Q first area table) (code_start area) (code_start area)
 
 -- each word of a table is a host address
 abbrev pub AreAddresses : List ℕ → Type 0
@@ -80,4 +80,4 @@ EntriesAreAddresses =
 abbrev pub TablesStand : Type 0
 TablesStand =
     (interface : Interface) (targets : ℕ → ℕ) (reading : ℕ → Option Instr) (ops : List ℕ → Option Fetched) (P Q : Program) (first : ℕ) (words : List ℕ) (area : ℕ) (table : List ℕ) →
-    HasWords P first words → length table ≡ length words → AreAddresses table → HasTableOf (setting_of interface targets reading ops P Q first area table) table → HasTable (setting_of interface targets reading ops P Q first area table)
+    HasWords P first words → length table ≡ length words → AreAddresses table → HasTableOf (context_of interface targets reading ops P Q first area table) table → HasTable (context_of interface targets reading ops P Q first area table)

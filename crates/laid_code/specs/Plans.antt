@@ -8,7 +8,7 @@ use Rattle.symbolic_tiles.specs.declared.flow_op.FlowOp.TheVariants.{Plain, Jump
 use Rattle.code_layout.specs.Places.{no_registers}
 use Rattle.code_layout.specs.Code.{IsLaid}
 use Rattle.simulation.specs.Windows.{behind_all}
-use Rattle.simulation.specs.Setting.{Setting}
+use Rattle.simulation.specs.Context.{SimulationContext}
 use Rattle.simulation.specs.Plan.{PlanStep, Move, Tile, BranchTile, FlowTile, IsMove, IsTile, IsUnneeded, LeadsTo, IsFlowTile}
 use Rattle.laid_code.specs.Items.{ArePlaceable}
 use Rattle.symbolic_tiles.specs.Marks.{AreMarked}
@@ -32,7 +32,7 @@ last_map from (Tile words window ops ∷ steps) = last_map from steps
 last_map from (_ ∷ steps) = from
 
 -- Under a map, each step does what it is for, where the first of their words has a guest address.
-abbrev pub AreRight : Setting → Map → ℕ → List PlanStep → Type 0
+abbrev pub AreRight : SimulationContext → Map → ℕ → List PlanStep → Type 0
 AreRight s from w [] = Unit {0}
 AreRight s from w (Move to ops ∷ steps) = IsMove s w from to ops × ArePlaceable ops × AreRight s to w steps
 AreRight s from w (Tile words window ops ∷ steps) =

@@ -1,5 +1,5 @@
 pub mod Words
 pub mod Window
-pub mod Setting
+pub mod Context
 pub mod Blocks
 pub mod Whole

@@ -1,4 +1,4 @@
--- The setting of the program and its translation.
+-- The context of the program and its translation.
 use Rattle.std.proofs.Common.{◌≡◌, ℕ, ◌+◌, ◌^◌, ◌-◌, ◌<◌, Bool, true, false, cond, eqb, List, [], ◌++◌, length, Option, Some, refl, sym, ap, ◌∙◌, subst, arith}
 use Rattle.std.proofs.lemmas.List.{append-nil, length-append}
 use Rattle.space.specs.declared.call.End.TheVariants.{Outside}
@@ -11,9 +11,9 @@ use Rattle.machines.specs.Memory.{rights_of, code_of}
 use Rattle.machines.specs.Readings.{Fetched, ReadsWords, ReadsOps}
 use Rattle.machines.specs.Guest.{is_code_word, code_word, executes}
 use Rattle.code_layout.specs.Code.{items_length}
-use Rattle.simulation.specs.Setting.{Setting, IsWordAt, IsOffCode, JumpsTo}
+use Rattle.simulation.specs.Context.{SimulationContext, IsWordAt, IsOffCode, JumpsTo}
 use Rattle.laid_code.specs.Bytes.{HasBytes, RunsCode}
-use Rattle.laid_code.specs.Instance.{setting_of}
+use Rattle.laid_code.specs.Instance.{context_of}
 use Rattle.laid_code.specs.Items.{ArePlaced}
 use Rattle.laid_code.specs.Plans.{plan_items}
 use Rattle.laid_code.proofs.Decoding.{first_bytes_at, next_bytes_at, jump_leads}
@@ -70,8 +70,8 @@ code_length =
     omega (arith, a, b, c, d, e, first_length, last_length, second_length, third_length, adapter_length)
 
 module _ (reading : ℕ → Option Instr) (ops : List ℕ → Option Fetched) where
-  abbrev pub s : Setting
-  s = setting_of interface target reading ops program translation first area entries
+  abbrev pub s : SimulationContext
+  s = context_of interface target reading ops program translation first area entries
 
   -- a word at an address of the code
   pub word_at : ReadsWords reading → (w n : ℕ) (i : Instr) → is_code_word (code_of program) w ≡ true → code_word (code_of program) w ≡ n → IsWordOf n i → IsWordAt s w (Some i)

@@ -12,7 +12,7 @@ use Rattle.machines.specs.Memory.{update}
 use Rattle.machines.specs.Guest.{Guest, behind}
 use Rattle.machines.specs.Host.{Core, Memory, value_at}
 use Rattle.machines.specs.Representation.{in_slot, location_place, AreInRange}
-use Rattle.symbolic_tiles.specs.Row.{IsDone, DoWindow}
+use Rattle.symbolic_tiles.specs.Row.{TilePostcondition, Implements}
 use Rattle.symbolic_tiles.proofs.Memory.{update_other, update_keeps}
 use Rattle.plan_example.specs.Example.{in_esi, both_adds}
 
@@ -47,8 +47,8 @@ in_range g ranges x lx = by_test (eqb x 3) refl
     by_test true e = subst (λ y. ((g.locs 3 + 2) % 2 ^ 32 + 3) % 2 ^ 32 < location_range y) (sym (eqb-true x 3 e)) (omega arith)
     by_test false e = ranges x lx
 
-pub adds_five : (area : ℕ) → DoWindow both_adds in_esi area (AluImm Add (Reg esi) 5 ∷ [])
-adds_five area guest host g g' core choices ready e = subst (λ k. IsDone both_adds in_esi area guest g k core (added core)) (goes_same (after g) g' e) (record {
+pub adds_five : (area : ℕ) → Implements both_adds in_esi area (AluImm Add (Reg esi) 5 ∷ [])
+adds_five area guest host g g' core choices ready e = subst (λ k. TilePostcondition both_adds in_esi area guest g k core (added core)) (goes_same (after g) g' e) (record {
   represents = record { locs = λ x lx alive. at_place area g core x (ready.represents.locs 3 (omega arith) tt) (ready.represents.locs x lx tt); bytes = ready.represents.bytes };
   in_range = λ x lx. subst (λ v. v < location_range x) (sym (at_place area g core x (ready.represents.locs 3 (omega arith) tt) (ready.represents.locs x lx tt))) (in_range g ready.in_range x lx);
   registers = λ r a c d free. update_other core.regs esi (sum_word (core.regs esi) 5 false) r (λ q. free 3 (0, omega arith, refl) (ap (λ k. Some k) (sym q)));

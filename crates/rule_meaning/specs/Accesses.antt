@@ -10,7 +10,7 @@ use Rattle.machines.specs.Memory.{Rights}
 use Rattle.machines.specs.Guest.{Guest}
 use Rattle.machines.specs.Host.{Choice, Core, Host, extend_size}
 use Rattle.symbolic_tiles.specs.Perform.{op_outcome}
-use Rattle.symbolic_tiles.specs.Row.{Window, IsReady, span}
+use Rattle.symbolic_tiles.specs.Row.{Window, TilePrecondition, span}
 
 -- the addresses of so many bytes at an operand that is a sum of registers
 abbrev pub summed : ℕ → Operand → (ℕ → ℕ) → List ℕ
@@ -53,4 +53,4 @@ pub record HaveAccess (host : Rights) (ops : List Op) (choices : List Choice) (c
 abbrev pub AccessWindow : Window → Map → ℕ → List Op → Type 0
 AccessWindow window map area ops =
     (guest host : Rights) (g g' : Guest) (core : Core) (choices : List Choice) →
-    IsReady window map area guest host g core → window.outcome guest g ≡ Goes g' → HaveAccess host ops choices core window g
+    TilePrecondition window map area guest host g core → window.outcome guest g ≡ Goes g' → HaveAccess host ops choices core window g

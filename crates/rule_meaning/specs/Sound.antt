@@ -8,7 +8,7 @@ use Rattle.ia_codec.specs.declared.op.Op.{Op}
 use Rattle.ia_codec.specs.declared.op.Condition.{Condition}
 use Rattle.ia_codec.specs.Spelling.{condition_number}
 use Rattle.symbolic_tiles.specs.Relocated.{op_at}
-use Rattle.symbolic_tiles.specs.Row.{Window, DoWindow}
+use Rattle.symbolic_tiles.specs.Row.{Window, Implements}
 use Rattle.rule_body.specs.declared.goal.Goal.{Goal}
 use Rattle.rule_body.specs.declared.rule.Rule.{Rule}
 use Rattle.rule_body.specs.Templates.{IsWindow, named}
@@ -46,7 +46,7 @@ ops_of_rule rule m area = list_map (op_at area) (laid_ops m rule.body)
 
 -- There the ops do what the window does, and access what it accesses.
 pub record IsSoundAt (rule : Rule) (words : List Instr) (condition : Option Condition) (map : Map) (m : Match) (area : ℕ) : Type 0 where
-  pub does : DoWindow (window_of_rule rule words condition m) map area (ops_of_rule rule m area)
+  pub does : Implements (window_of_rule rule words condition m) map area (ops_of_rule rule m area)
   pub accesses : AccessWindow (window_of_rule rule words condition m) map area (ops_of_rule rule m area)
 
 -- A rule is sound where this is so wherever it is laid: with its parameters as any different GPRs, each in a slot or at home

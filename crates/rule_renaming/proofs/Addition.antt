@@ -17,7 +17,7 @@ use Rattle.machines.specs.Guest.{Guest, onward}
 use Rattle.machines.specs.Host.{Core, Memory, value_at}
 use Rattle.machines.specs.Representation.{in_slot, location_place}
 use Rattle.symbolic_tiles.specs.Relocated.{op_at}
-use Rattle.symbolic_tiles.specs.Row.{IsReady, IsDone, DoWindow}
+use Rattle.symbolic_tiles.specs.Row.{TilePrecondition, TilePostcondition, Implements}
 use Rattle.symbolic_tiles.proofs.Memory.{update_same, update_other}
 use Rattle.symbolic_tiles.proofs.Places.{slots_apart}
 use Rattle.rule_body.specs.declared.goal.Goal.{Goal}
@@ -68,7 +68,7 @@ module _ (own : Map) (area : ℕ) (is_own : IsOwnMap (template_of add_goal).slot
   third : slot_of own 3 ≡ Some 7
   third = is_own.in_slots 2 refl
 
-  module _ (dead : ℕ → Bool) (guest host : Rights) (g : Guest) (core : Core) (ready : IsReady (window (addition ∷ []) dead None) own area guest host g core) where
+  module _ (dead : ℕ → Bool) (guest host : Rights) (g : Guest) (core : Core) (ready : TilePrecondition (window (addition ∷ []) dead None) own area guest host g core) where
     in_register : (x r : ℕ) → x < 46 → slot_of own x ≡ Some r → core.regs r ≡ g.locs x
     in_register x r lx e = ap (λ o. value_at core (in_slot o (Memory (home_size x) (area + home x)))) (sym e) ∙ ready.represents.locs x lx tt
 
@@ -109,7 +109,7 @@ module _ (own : Map) (area : ℕ) (is_own : IsOwnMap (template_of add_goal).slot
     words r = ⊎_elim (λ (e : r ≡ 3). subst (λ k. end.regs k < 2 ^ 32) (sym e) (subst (λ v. v < 2 ^ 32) (sym (update_same core.regs 3 ((core.regs 6 + core.regs 7 * 2 ^ 0 + 0) % 2 ^ 32))) (omega arith)))
         (λ ne. subst (λ v. v < 2 ^ 32) (sym (update_other core.regs 3 ((core.regs 6 + core.regs 7 * 2 ^ 0 + 0) % 2 ^ 32) r ne)) (ready.is_core.words r)) (is_same r 3)
 
-    addition_done : IsDone (window (addition ∷ []) dead None) own area guest g (onward after g) core end
+    addition_done : TilePostcondition (window (addition ∷ []) dead None) own area guest g (onward after g) core end
     addition_done = record {
       represents = record { locs = λ x lx alive. locs x lx; bytes = ready.represents.bytes };
       in_range = λ x lx. subst (λ v. v < location_range x) (sym (locs x lx)) (ranges x lx);
@@ -119,10 +119,10 @@ module _ (own : Map) (area : ℕ) (is_own : IsOwnMap (template_of add_goal).slot
       is_core = record { words = words; bytes = ready.is_core.bytes };
     }
 
-  addition_does : (dead : ℕ → Bool) → DoWindow (window (addition ∷ []) dead None) own area (Lea 3 (Pair 6 7 0 0) ∷ [])
+  addition_does : (dead : ℕ → Bool) → Implements (window (addition ∷ []) dead None) own area (Lea 3 (Pair 6 7 0 0) ∷ [])
   unfolding total
   addition_does dead guest host g g' core choices ready goes =
-      subst (λ k. IsDone (window (addition ∷ []) dead None) own area guest g k core (end dead guest host g core ready)) (same_guest (onward (after dead guest host g core ready) g) g' goes) (addition_done dead guest host g core ready)
+      subst (λ k. TilePostcondition (window (addition ∷ []) dead None) own area guest g k core (end dead guest host g core ready)) (same_guest (onward (after dead guest host g core ready) g) g' goes) (addition_done dead guest host g core ready)
 
   addition_accesses : (dead : ℕ → Bool) → AccessWindow (window (addition ∷ []) dead None) own area (Lea 3 (Pair 6 7 0 0) ∷ [])
   unfolding accessed loads_of stores_of
@@ -130,7 +130,7 @@ module _ (own : Map) (area : ℕ) (is_own : IsOwnMap (template_of add_goal).slot
 
 -- what soundness at a match asks, of a goal and a body
 record SoundFor (goal : Goal) (body : Body) (words : List Instr) (condition : Option Condition) (map : Map) (m : Match) (area : ℕ) : Type 0 where
-  pub does : DoWindow (window (laid_words m 0 (guests_of goal) words) (dead_of goal m) condition) map area (list_map (op_at area) (laid_ops m body))
+  pub does : Implements (window (laid_words m 0 (guests_of goal) words) (dead_of goal m) condition) map area (list_map (op_at area) (laid_ops m body))
   pub accesses : AccessWindow (window (laid_words m 0 (guests_of goal) words) (dead_of goal m) condition) map area (list_map (op_at area) (laid_ops m body))
 
 addition_sound : ((w : ℕ) → HasOneInstruction w) → (words : List Instr) (condition : Option Condition) (own : Map) (m : Match) (area : ℕ) → AreGuests (guests_of add_goal) words → IsConditionOf None condition → IsOwnMap (template_of add_goal).slots own →

@@ -9,7 +9,7 @@ use Rattle.machines.specs.Memory.{load, Rights}
 use Rattle.machines.specs.Guest.{Guest}
 use Rattle.machines.specs.Host.{Core, Memory, value_at}
 use Rattle.machines.specs.Representation.{in_slot, location_place, IsHomePage, Represents, AreInRange}
-use Rattle.symbolic_tiles.specs.Row.{Any, IsCore, IsDone, IsUnowned, Window}
+use Rattle.symbolic_tiles.specs.Row.{Any, IsCore, TilePostcondition, IsUnowned, Window}
 use Rattle.symbolic_tiles.proofs.Places.{slots_apart, slot_cached, home_within}
 use Rattle.rule_meaning.specs.Matches.{Match}
 use Rattle.rule_meaning.specs.LaidOps.{register_of, offset_of}
@@ -100,7 +100,7 @@ module _ (slots : List Bool) (m : Match) (map : Map) (b : Bound slots m map) (ar
       abbrev start0 : Core
       start0 = own_core slots m map b area guest host page own is_own g core represents in_range is_core
 
-      module _ (taken : window.taken g ≡ window0.taken before0) (end end0 : Core) (r : Renamed m area host (U slots m) (O slots m) core end end0) (d : IsDone window0 own area guest before0 g0' start0 end0) where
+      module _ (taken : window.taken g ≡ window0.taken before0) (end end0 : Core) (r : Renamed m area host (U slots m) (O slots m) core end end0) (d : TilePostcondition window0 own area guest before0 g0' start0 end0) where
         none_far : (x : ℕ) → 32 ≤ x → slot_of own x ≡ None
         none_far x ge = is_own.at_home x (ap (λ t. t && is_in_slot slots x) (no_parameter slots m map b area guest host page own is_own g core represents in_range is_core x ge))
 
@@ -314,7 +314,7 @@ module _ (slots : List Bool) (m : Match) (map : Map) (b : Bound slots m map) (ar
         held_bytes : (a : ℕ) → guest.held a ≡ true → end.bytes a ≡ g'.bytes a
         held_bytes a held = r.far a (page.apart a held) ∙ d.represents.bytes a held ∙ sym (ap (λ f. f a) same.bytes)
 
-        pub done : IsDone window map area guest g g' core end
+        pub done : TilePostcondition window map area guest g g' core end
         done = record {
           represents = record { locs = locs; bytes = held_bytes };
           in_range = ranges;

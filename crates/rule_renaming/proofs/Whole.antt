@@ -14,7 +14,7 @@ use Rattle.machines.specs.Host.{Choice, Core}
 use Rattle.machines.specs.Representation.{IsHomePage}
 use Rattle.symbolic_tiles.specs.Relocated.{op_at}
 use Rattle.symbolic_tiles.specs.Perform.{perform}
-use Rattle.symbolic_tiles.specs.Row.{Window, IsReady, IsDone, GoesThrough, DoWindow}
+use Rattle.symbolic_tiles.specs.Row.{Window, TilePrecondition, TilePostcondition, GoesThrough, Implements}
 use Rattle.simulation.specs.Windows.{rows_of}
 use Rattle.rule_body.specs.declared.line.HostLine.{HostLine}
 use Rattle.rule_body.specs.Templates.{Template}
@@ -81,8 +81,8 @@ module _ (slots : List Bool) (m : Match) (map own : Map) (b : Bound slots m map)
   abbrev ops_here : List Op
   ops_here = list_map (op_at area) ops
 
-  module _ (does : DoWindow here own area ops_here) (accesses : AccessWindow here own area ops_here)
-      (guest host : Rights) (g g' : Guest) (core : Core) (choices : List Choice) (ready : IsReady there map area guest host g core) (goes : there.outcome guest g ≡ Goes g') where
+  module _ (does : Implements here own area ops_here) (accesses : AccessWindow here own area ops_here)
+      (guest host : Rights) (g g' : Guest) (core : Core) (choices : List Choice) (ready : TilePrecondition there map area guest host g core) (goes : there.outcome guest g ≡ Goes g') where
     g0 : Guest
     g0 = own_guest slots m map b area guest host ready.page own is_map_own g core ready.represents ready.in_range ready.is_core
 
@@ -106,7 +106,7 @@ module _ (slots : List Bool) (m : Match) (map own : Map) (b : Bound slots m map)
     same_stores : stores_of (list_map (bound m.gpr) words) g ≡ stores_of words g0
     same_stores = stores_renamed m (P slots m) (guest_names slots m map b) g.locs words g g0 named alike
 
-    ready0 : IsReady here own area guest host g0 core0
+    ready0 : TilePrecondition here own area guest host g0 core0
     unfolding g0 core0
     ready0 = record {
       page = ready.page;
@@ -135,11 +135,11 @@ module _ (slots : List Bool) (m : Match) (map own : Map) (b : Bound slots m map)
     run : DoSame m area host (U slots m) (O slots m) (names slots m map b area guest host ready.page) core ops choices core core0
     run = ops_renamed m area host (U slots m) (O slots m) (names slots m map b area guest host ready.page) core ops choices core core0 (named_ops guest host ready.page core) away renamed
 
-    pub done_there : GoesThrough (perform host ops_there choices core) (IsDone there map area guest g g' core)
+    pub done_there : GoesThrough (perform host ops_there choices core) (TilePostcondition there map area guest g g' core)
     unfolding g0 core0
     done_there =
-        let d = through (perform host ops_here choices core0) (IsDone here own area guest g0 on.0 core0) (does guest host g0 on.0 core0 choices ready0 on.1) in
-        by_both (perform host ops_there choices core) d.0 (IsDone there map area guest g g' core)
+        let d = through (perform host ops_here choices core0) (TilePostcondition here own area guest g0 on.0 core0) (does guest host g0 on.0 core0 choices ready0 on.1) in
+        by_both (perform host ops_there choices core) d.0 (TilePostcondition there map area guest g g' core)
         (λ end r. done slots m map b area guest host ready.page own is_map_own g core ready.represents ready.in_range ready.is_core there here g' on.0 on.2 dead_pars dead_far (words_write m (P slots m) (guest_names slots m map b) words named) refl (taken_renamed m (P slots m) (guest_names slots m map b) g.locs words g g0 named alike) end d.0 r d.2)
         (subst (Both (Renamed m area host (U slots m) (O slots m) core) (perform host ops_there choices core)) d.1 run.both)
       where
@@ -172,9 +172,9 @@ one_instance_is_enough one rule is plainly words condition map m area is_window 
     let sound = plainly words condition own m area is_window takes is_own fits.constants in
     let e = plain_words slots m 0 guests words named in
     let d = plain_ops m lines in
-    let does : DoWindow (window filled (dead_of goal (plain m)) condition) own area (list_map (op_at area) (filled_ops m lines)) =
-    subst (λ ws. DoWindow (window ws (dead_of goal (plain m)) condition) own area (list_map (op_at area) (filled_ops m lines))) e
-    (subst (λ os. DoWindow (window (laid_words (plain m) 0 guests words) (dead_of goal (plain m)) condition) own area (list_map (op_at area) os)) d sound.does) in
+    let does : Implements (window filled (dead_of goal (plain m)) condition) own area (list_map (op_at area) (filled_ops m lines)) =
+    subst (λ ws. Implements (window ws (dead_of goal (plain m)) condition) own area (list_map (op_at area) (filled_ops m lines))) e
+    (subst (λ os. Implements (window (laid_words (plain m) 0 guests words) (dead_of goal (plain m)) condition) own area (list_map (op_at area) os)) d sound.does) in
     let accesses : AccessWindow (window filled (dead_of goal (plain m)) condition) own area (list_map (op_at area) (filled_ops m lines)) =
     subst (λ ws. AccessWindow (window ws (dead_of goal (plain m)) condition) own area (list_map (op_at area) (filled_ops m lines))) e
     (subst (λ os. AccessWindow (window (laid_words (plain m) 0 guests words) (dead_of goal (plain m)) condition) own area (list_map (op_at area) os)) d sound.accesses) in
@@ -182,8 +182,8 @@ one_instance_is_enough one rule is plainly words condition map m area is_window 
     let dead_pars = λ (p : ℕ) (i : P slots m p). dead_parameter goal m p ((guest_names slots m map b).low p i) in
     let lines_are = λ (guest host : Rights) (page : IsHomePage area guest host) (start : Core). lines_named slots m map b area (template_of goal) refl guest host page start lines is.body.lines.each in
     record {
-      does = subst (λ ws. DoWindow (window ws (dead_of goal m) condition) map area (list_map (op_at area) (laid_ops m rule.body))) (sym laid)
-          (subst (λ os. DoWindow (window (list_map (bound m.gpr) filled) (dead_of goal m) condition) map area (list_map (op_at area) os)) (sym (placed_are m lines))
+      does = subst (λ ws. Implements (window ws (dead_of goal m) condition) map area (list_map (op_at area) (laid_ops m rule.body))) (sym laid)
+          (subst (λ os. Implements (window (list_map (bound m.gpr) filled) (dead_of goal m) condition) map area (list_map (op_at area) os)) (sym (placed_are m lines))
           (λ guest host g g' core choices ready goes. done_there slots m map own b (own_of slots own is_own) area filled (filled_ops m lines) (dead_of goal m) (dead_of goal (plain m)) condition named (has_take rule.body.take) are lines_are dead_pars (dead_other goal m) does accesses guest host g g' core choices ready goes));
       accesses = subst (λ ws. AccessWindow (window ws (dead_of goal m) condition) map area (list_map (op_at area) (laid_ops m rule.body))) (sym laid)
           (subst (λ os. AccessWindow (window (list_map (bound m.gpr) filled) (dead_of goal m) condition) map area (list_map (op_at area) os)) (sym (placed_are m lines))

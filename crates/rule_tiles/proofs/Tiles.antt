@@ -6,11 +6,11 @@ use Rattle.ppc_isa.specs.declared.map.Map.{Map}
 use Rattle.ppc_isa.specs.Legal.{HasOneInstruction}
 use Rattle.ia_codec.specs.declared.op.Condition.{Condition}
 use Rattle.machines.specs.Guest.{behind}
-use Rattle.symbolic_tiles.specs.Row.{DoWindow}
+use Rattle.symbolic_tiles.specs.Row.{Implements}
 use Rattle.simulation.specs.Windows.{behind_all}
-use Rattle.simulation.specs.Setting.{Setting}
+use Rattle.simulation.specs.Context.{SimulationContext}
 use Rattle.simulation.specs.Plan.{IsTile, AreWordsAt, IsInside, IsUnneeded}
-use Rattle.simulation.specs.Relation.{IsTranslation, MeetingAdvances, inside}
+use Rattle.simulation.specs.Relation.{IsTranslation, SimulationAdvances, inside}
 use Rattle.rule_body.specs.declared.rule.Rule.{Rule}
 use Rattle.rule_body.specs.Bodies.{lines_of}
 use Rattle.rule_meaning.specs.Matches.{Match}
@@ -36,7 +36,7 @@ has_one : (taken : Option ℕ) (condition : Condition) → IsConditionOf taken (
 has_one None condition is = absurd is
 has_one (Some n) condition is = refl
 
-module _ (one : (w : ℕ) → HasOneInstruction w) (s : Setting) (t : IsTranslation s) where
+module _ (one : (w : ℕ) → HasOneInstruction w) (s : SimulationContext) (t : IsTranslation s) where
   words_at : (forks : Bool) (words : List Instr) (w : ℕ) → AreRuleWords forks words → StandWords s w words → AreWordsAt s w words
   words_at forks [] w are at = tt
   words_at true (i ∷ []) w are at = (at.0, linked_of s.guest true i [] are, tt)
@@ -47,9 +47,9 @@ module _ (one : (w : ℕ) → HasOneInstruction w) (s : Setting) (t : IsTranslat
     are_words : AreRuleWords (has_take rule.body.take) found
     are_words = subst (AreRuleWords (has_take rule.body.take)) laid.matches.same (rule_words one rule laid.is_rule words laid.matches.window m)
 
-    does : (condition : Option Condition) → IsConditionOf rule.body.take condition → DoWindow (window_at rule found m condition) map s.area (ops_of_rule rule m s.area)
+    does : (condition : Option Condition) → IsConditionOf rule.body.take condition → Implements (window_at rule found m condition) map s.area (ops_of_rule rule m s.area)
     does condition takes =
-        subst (λ ws. DoWindow (window ws (dead_of rule.goal m) condition) map s.area (ops_of_rule rule m s.area)) laid.matches.same
+        subst (λ ws. Implements (window ws (dead_of rule.goal m) condition) map s.area (ops_of_rule rule m s.area)) laid.matches.same
         (laid.sound words condition map m s.area laid.matches.window takes laid.matches.is_map laid.matches.fits).does
 
     insides : (condition : Option Condition) → IsInside s (window_at rule found m condition)
@@ -97,7 +97,7 @@ module _ (one : (w : ℕ) → HasOneInstruction w) (s : Setting) (t : IsTranslat
         forked.to_next,
       )
 
-module _ (s : Setting) (advances : MeetingAdvances s) where
+module _ (s : SimulationContext) (advances : SimulationAdvances s) where
   pub rule_keeps : RuleIsTile s → RuleKeeps s
   rule_keeps tiles rule words found map dead m to steps p q g h stood laid none is rest in_block few few_first le_q =
       advances p q g h (inside map (tile_of rule found m ∷ steps) stood (tiles rule words found map dead m g.next h.eip to steps laid none is rest) in_block (few_first, few) (omega arith))

@@ -8,9 +8,9 @@ use Rattle.runs.specs.Simulation.{Advance}
 use Rattle.machines.specs.Guest.{Guest, behind}
 use Rattle.machines.specs.Host.{Host}
 use Rattle.symbolic_tiles.specs.Row.{Window}
-use Rattle.symbolic_tiles.specs.Standing.{StandAt}
+use Rattle.symbolic_tiles.specs.Standing.{OpsAt}
 use Rattle.simulation.specs.Windows.{behind_all}
-use Rattle.simulation.specs.Setting.{Setting, IsWordAt, ForksAt, Stood}
+use Rattle.simulation.specs.Context.{SimulationContext, IsWordAt, ForksAt, MatchesState}
 use Rattle.simulation.specs.Plan.{PlanStep, Tile, BranchTile, word_count, room, HasFewMoves, EdgeAt, BlockAt}
 use Rattle.simulation.specs.Relation.{Meets}
 use Rattle.rule_body.specs.declared.rule.Rule.{Rule}
@@ -33,7 +33,7 @@ tile_of rule found m = Tile found (window_at rule found m None) (laid_ops m rule
 abbrev pub branch_tile_of : Rule → List Instr → Match → Condition → ℕ → PlanStep
 branch_tile_of rule found m condition w = BranchTile found (window_at rule found m (Some condition)) (laid_ops m rule.body) condition (target_of found w)
 
-module _ (s : Setting) where
+module _ (s : SimulationContext) where
   -- these instructions stand at a guest address, one behind another
   abbrev pub StandWords : ℕ → List Instr → Type 0
   StandWords w [] = Unit {0}
@@ -46,7 +46,7 @@ module _ (s : Setting) where
     pub sound : IsSound rule
     pub matches : IsMatchAt rule words found map dead m
     pub fetched : StandWords w found
-    pub stands : StandAt s.host s.host_step from (ops_of_rule rule m s.area) to
+    pub stands : OpsAt s.host s.host_step from (ops_of_rule rule m s.area) to
 
   -- what is dead isn't live at a guest address
   abbrev pub IsDeadAt : (ℕ → Bool) → ℕ → Type 0
@@ -84,12 +84,12 @@ module _ (s : Setting) where
   abbrev pub RuleKeeps : Type 0
   RuleKeeps =
       (rule : Rule) (words found : List Instr) (map : Map) (dead : ℕ → Bool) (m : Match) (to : ℕ) (steps : List PlanStep) (p q : ℕ) (g : Guest) (h : Host) →
-      Stood s map g h.core → IsLaid rule words found map dead m g.next h.eip to → rule.body.take ≡ None → IsDeadAt dead (behind_all g.next found) → BlockAt s map (behind_all g.next found) to steps →
+      MatchesState s map g h.core → IsLaid rule words found map dead m g.next h.eip to → rule.body.take ≡ None → IsDeadAt dead (behind_all g.next found) → BlockAt s map (behind_all g.next found) to steps →
       p + (length found + word_count steps) ≤ 64 → HasFewMoves steps → room steps ≤ 40 → q ≤ 40 → Advances p q g h
 
   abbrev pub RuleBranchKeeps : Type 0
   RuleBranchKeeps =
       (rule : Rule) (words found : List Instr) (map : Map) (dead : ℕ → Bool) (m : Match) (to : ℕ) (condition : Condition) (p q : ℕ) (g : Guest) (h : Host) →
-      Stood s map g h.core → IsLaid rule words found map dead m g.next h.eip to → IsConditionOf rule.body.take (Some condition) →
+      MatchesState s map g h.core → IsLaid rule words found map dead m g.next h.eip to → IsConditionOf rule.body.take (Some condition) →
       IsDeadAt dead (target_of found g.next) → IsDeadAt dead (behind_all g.next found) → IsForked map condition to (target_of found g.next) (behind_all g.next found) →
       p + length found ≤ 64 → q ≤ 40 → Advances p q g h

@@ -3,4 +3,4 @@
 
 mod laws;
 
-pub use laws::{rules_are_tiles, rules_keep_meeting};
+pub use laws::{rules_are_tiles, rules_keep_simulation};

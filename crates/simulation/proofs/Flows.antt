@@ -16,9 +16,9 @@ use Rattle.symbolic_tiles.specs.Flow.{leap_target, Exit, Leaves, Leaps, Stops, C
 use Rattle.symbolic_tiles.specs.Standing.{EdgeCode, Reaches}
 use Rattle.symbolic_tiles.proofs.Walked.{flows_are_walked}
 use Rattle.code_layout.specs.Places.{no_registers}
-use Rattle.simulation.specs.Setting.{Setting, Stood, Alike, AreAlike, KeepsUnwrittenBy}
+use Rattle.simulation.specs.Context.{SimulationContext, MatchesState, Alike, AreAlike, StepKeepsUnwritten}
 use Rattle.simulation.specs.Plan.{EdgeAt, SwitchAt, LeapAt, DoorAt, FlowAt}
-use Rattle.simulation.specs.Relation.{Meets, leaving, IsTranslation}
+use Rattle.simulation.specs.Relation.{Simulates, on_edge, IsTranslation}
 use Rattle.simulation.proofs.Full.{full, full_alike, full_represents, full_in_range, IsUnwritten, walk_keeps}
 use Rattle.simulation.proofs.Switches.{Steps, enters}
 use Rattle.simulation.proofs.Leaps.{Leapt}
@@ -34,7 +34,7 @@ is_outside ends.Outside = inl refl
 is_outside ends.Dry = inr (λ x. cc)
 is_outside ends.DivideFault = inr (λ x. cc)
 
-module _ (s : Setting) where
+module _ (s : SimulationContext) where
   -- behind a flow tile: on an edge or, behind the indirect sequence, at the door
   pub record Lands (p most : ℕ) (g : Guest) (h : Host) : Type 0 where
     pub j : ℕ
@@ -43,9 +43,9 @@ module _ (s : Setting) where
     pub few : j ≤ most + 6
     pub slow : p + 1 ≤ 64 * j + p'
     pub host_walks : Walks Anywhere s.host_step j h h'
-    pub meets : Meets s p' 0 g h'
+    pub meets : Simulates s p' 0 g h'
 
-module _ (s : Setting) (t : IsTranslation s) (map : Map) (is_map : IsMap map) (labels : ℕ → ℕ) (edges : List EdgeCode) (leaps : List ℕ) (edges_stand : (e : EdgeCode) → Contains edges e → EdgeAt s map e.target e.at) (leaps_stand : (at : ℕ) → Contains leaps at → (map ≡ no_registers) × LeapAt s at) where
+module _ (s : SimulationContext) (t : IsTranslation s) (map : Map) (is_map : IsMap map) (labels : ℕ → ℕ) (edges : List EdgeCode) (leaps : List ℕ) (edges_stand : (e : EdgeCode) → Contains edges e → EdgeAt s map e.target e.at) (leaps_stand : (at : ℕ) → Contains leaps at → (map ≡ no_registers) × LeapAt s at) where
   abbrev Reached : ℕ → Exit → Host → Type 0
   Reached most exit h = Reaches s.host s.area s.host_step labels edges leaps most exit h
 
@@ -53,7 +53,7 @@ module _ (s : Setting) (t : IsTranslation s) (map : Map) (is_map : IsMap map) (l
   lands : (p most : ℕ) (before : Core) (g' shown : Guest) (exit : Exit) (h : Host) → p < 64 → IsUnwritten s h.core → Alike s g' shown → FitsGoing map s.area s.guest before shown exit → Reached most exit h → Lands s p most g' h
   lands p most before g' shown (Leaves target core) h lt_p unwritten alike fits r =
       let behind = subst (IsBehind map s.area s.guest shown before) (sym r.5) fits.1 in
-      let stood : Stood s map g' r.1.core = record {
+      let stood : MatchesState s map g' r.1.core = record {
         is_map = is_map;
         represents = record {
           locs = λ x lx alive. behind.represents.locs x lx tt ∙ alike.locs x alive;
@@ -64,10 +64,10 @@ module _ (s : Setting) (t : IsTranslation s) (map : Map) (is_map : IsMap map) (l
         unwritten = walk_keeps s t.keeps r.0 h r.1 r.3 unwritten;
       } in
       let edge : EdgeAt s map g'.next r.1.eip = subst (λ w. EdgeAt s map w r.1.eip) (fits.0 ∙ alike.next) (edges_stand _ r.4) in
-      record { j = r.0; p' = suc p; h' = r.1; few = omega (arith, r.2); slow = omega arith; host_walks = r.3; meets = leaving map edge.0 stood edge.2 (omega arith) (omega (arith, edge.1)) }
+      record { j = r.0; p' = suc p; h' = r.1; few = omega (arith, r.2); slow = omega arith; host_walks = r.3; meets = on_edge map edge.0 stood edge.2 (omega arith) (omega (arith, edge.1)) }
   lands p most before g' shown (Leaps core) h lt_p unwritten alike fits r =
       let behind = subst (IsBehind map s.area s.guest shown before) (sym r.5) fits.1 in
-      let stood : Stood s map g' r.1.core = record {
+      let stood : MatchesState s map g' r.1.core = record {
         is_map = is_map;
         represents = record {
           locs = λ x lx alive. behind.represents.locs x lx tt ∙ alike.locs x alive;
@@ -98,7 +98,7 @@ module _ (s : Setting) (t : IsTranslation s) (map : Map) (is_map : IsMap map) (l
         few = omega (arith, le, d.few);
         slow = omega arith;
         host_walks = join_walks Anywhere s.host_step i d.j h h1 d.h' w d.host_walks;
-        meets = leaving map edge.0 d.stood (subst (λ a. SwitchAt s g'.next edge.0 map a) (sym d.here) (subst (λ m. SwitchAt s g'.next edge.0 m (s.door g'.next)) (sym empty) edge.2)) (omega arith) (omega (arith, edge.1));
+        meets = on_edge map edge.0 d.stood (subst (λ a. SwitchAt s g'.next edge.0 map a) (sym d.here) (subst (λ m. SwitchAt s g'.next edge.0 m (s.door g'.next)) (sym empty) edge.2)) (omega arith) (omega (arith, edge.1));
       }
   lands p most before g' shown (Stops e) h lt_p unwritten alike fits r = absurd fits
   lands p most before g' shown (Calls call exits) h lt_p unwritten alike fits r = absurd fits
@@ -132,7 +132,7 @@ module _ (s : Setting) (t : IsTranslation s) (map : Map) (is_map : IsMap map) (l
           over (record { j = d.0; h1 = d.1; how = e; inside = n; guest_ends = step; host_walks = d.3; host_ends = d.4 ∙ ap Ends same; clean = tt; soon = omega (arith, d.2) })
   by_exit p q most g h (Asks call next) (Asks call' next') (Calls asked exits) lt_p le_q few unwritten step alike fits r =
       let kept : IsUnwritten s r.2.core = walk_keeps s t.keeps r.0 h r.2 r.5 unwritten in
-      let after : KeepsUnwrittenBy s r.2.core (Asks asked r.3) = subst (KeepsUnwrittenBy s r.2.core) r.6 (t.keeps r.2) in
+      let after : StepKeepsUnwritten s.host r.2.core (Asks asked r.3) = subst (StepKeepsUnwritten s.host r.2.core) r.6 (t.keeps r.2) in
       called (record {
         j = r.0;
         h1 = r.2;
@@ -158,8 +158,8 @@ module _ (s : Setting) (t : IsTranslation s) (map : Map) (is_map : IsMap map) (l
   by_exit p q most g h (Asks call next) (Asks call' next') _ lt_p le_q few unwritten step alike fits r = absurd fits
   by_exit p q most g h _ _ exit lt_p le_q few unwritten step alike fits r = absurd alike
 
-module _ (s : Setting) (t : IsTranslation s) where
-  pub by_flow : (p q : ℕ) (g : Guest) (h : Host) (map : Map) (word : Option Instr) (items : List FlowOp) → Stood s map g h.core → FlowAt s map g.next word items h.eip → p < 64 → q ≤ 40 → Steps s p q g h
+module _ (s : SimulationContext) (t : IsTranslation s) where
+  pub by_flow : (p q : ℕ) (g : Guest) (h : Host) (map : Map) (word : Option Instr) (items : List FlowOp) → MatchesState s map g h.core → FlowAt s map g.next word items h.eip → p < 64 → q ≤ 40 → Steps s p q g h
   by_flow p q g h map word items stood st lt_p le_q =
       let shown = full map s.area h.core g in
       let alike = full_alike s map g h.core stood in

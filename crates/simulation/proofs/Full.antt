@@ -9,7 +9,7 @@ use Rattle.machines.specs.Guest.{Guest}
 use Rattle.machines.specs.Host.{Core, Host, value_at}
 use Rattle.machines.specs.Representation.{location_place, Represents, AreInRange}
 use Rattle.symbolic_tiles.specs.Row.{GoesThrough, Any}
-use Rattle.simulation.specs.Setting.{Setting, Stood, Alike, KeepsUnwrittenBy}
+use Rattle.simulation.specs.Context.{SimulationContext, MatchesState, Alike, StepKeepsUnwritten}
 
 -- the guest with the values that the places have, and beyond the locations its own
 abbrev pub full : Map → ℕ → Core → Guest → Guest
@@ -18,7 +18,7 @@ full map area core g = record g { locs = λ x. cond (ltb x location_count) (valu
 pub full_at : (map : Map) (area : ℕ) (core : Core) (g : Guest) (x : ℕ) → x < location_count → (full map area core g).locs x ≡ value_at core (location_place map area x)
 full_at map area core g x lx = ap (λ b. cond b (value_at core (location_place map area x)) (g.locs x)) (lt-ltb x location_count lx)
 
-module _ (s : Setting) (map : Map) (g : Guest) (core : Core) (stood : Stood s map g core) where
+module _ (s : SimulationContext) (map : Map) (g : Guest) (core : Core) (stood : MatchesState s map g core) where
   abbrev shown : Guest
   shown = full map s.area core g
 
@@ -41,10 +41,10 @@ goes_to None P h = absurd h
 goes_to (Some core) P h = (core, refl, h)
 
 -- bytes that may not be written are the file's
-abbrev pub IsUnwritten : Setting → Core → Type 0
+abbrev pub IsUnwritten : SimulationContext → Core → Type 0
 IsUnwritten s core = (a : ℕ) → s.host.writable a ≡ false → core.bytes a ≡ s.image a
 
-module _ (s : Setting) (keeps : (h : Host) → KeepsUnwrittenBy s h.core (s.host_step h)) where
+module _ (s : SimulationContext) (keeps : (h : Host) → StepKeepsUnwritten s.host h.core (s.host_step h)) where
   pub walk_keeps : (j : ℕ) (h h' : Host) → Walks Anywhere s.host_step j h h' → IsUnwritten s h.core → IsUnwritten s h'.core
   walk_keeps j h h' stays kept = kept
-  walk_keeps j h h' (walks {j = i} {t = h1} c e w) kept = walk_keeps i h1 h' w (λ a no. subst (KeepsUnwrittenBy s h.core) e (keeps h) a no ∙ kept a no)
+  walk_keeps j h h' (walks {j = i} {t = h1} c e w) kept = walk_keeps i h1 h' w (λ a no. subst (StepKeepsUnwritten s.host h.core) e (keeps h) a no ∙ kept a no)

@@ -18,7 +18,7 @@ use Rattle.machines.specs.Representation.{in_slot, location_place}
 use Rattle.symbolic_tiles.specs.Row.{IsCore}
 use Rattle.symbolic_tiles.specs.Flow.{leap_target}
 use Rattle.code_layout.specs.Leap.{leap_ops}
-use Rattle.simulation.specs.Setting.{Setting, Stood}
+use Rattle.simulation.specs.Context.{SimulationContext, MatchesState}
 use Rattle.simulation.specs.Plan.{LeapAt}
 use Rattle.simulation.specs.Relation.{IsTranslation}
 use Rattle.symbolic_tiles.proofs.Memory.{load_same, update_keeps}
@@ -84,7 +84,7 @@ compared_core first count core is = record {
     low : target < 2 ^ 32
     low = let w = is.words ecx in let e = cleared (core.regs ecx) w in omega (arith, e, w)
 
-module _ (s : Setting) (t : IsTranslation s) where
+module _ (s : SimulationContext) (t : IsTranslation s) where
   -- behind the sequence
   pub record Leapt (map : Map) (g : Guest) (h : Host) : Type 0 where
     pub j : ℕ
@@ -92,10 +92,10 @@ module _ (s : Setting) (t : IsTranslation s) where
     pub some : 1 ≤ j
     pub few : j ≤ 6
     pub host_walks : Walks Anywhere s.host_step j h h'
-    pub stood : Stood s map g h'.core
+    pub stood : MatchesState s map g h'.core
     pub here : h'.eip ≡ s.door g.next
 
-  pub leaps : (map : Map) (g : Guest) (h : Host) → Stood s map g h.core → leap_target h.core ≡ g.next → LeapAt s h.eip → Leapt map g h
+  pub leaps : (map : Map) (g : Guest) (h : Host) → MatchesState s map g h.core → leap_target h.core ≡ g.next → LeapAt s h.eip → Leapt map g h
   leaps map g h stood to leap = by_place (place_of s.first s.count g.next (omega (arith, to, word)) t.has_table.first_word t.has_table.low t.has_table.aligned (omega (arith, to)))
     where
       word : h.core.regs 1 < 2 ^ 32
@@ -122,7 +122,7 @@ module _ (s : Setting) (t : IsTranslation s) where
       unwritten : IsUnwritten s core
       unwritten = walk_keeps s t.keeps 4 h h1 walked.1 stood.unwritten
 
-      stood' : Stood s map g core
+      stood' : MatchesState s map g core
       stood' = record {
         is_map = stood.is_map;
         represents = record {

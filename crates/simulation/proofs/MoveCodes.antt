@@ -10,7 +10,7 @@ use Rattle.reg_map.specs.declared.moves.Move.TheVariants.{Drop, Take}
 use Rattle.reg_map.specs.Moves.{slot_register, moved_gpr, moved, move_op, is_live, MovesOne}
 use Rattle.reg_map.proofs.Moving.{moves_move_one}
 use Rattle.machines.specs.Representation.{IsHomePage}
-use Rattle.simulation.specs.Setting.{Setting}
+use Rattle.simulation.specs.Context.{SimulationContext}
 use Rattle.simulation.specs.Plan.{IsMove}
 use Rattle.simulation.specs.Moves.{ops_in, MoveCodesMove}
 use Rattle.simulation.proofs.Moves.{moves_keep}
@@ -18,7 +18,7 @@ use Rattle.simulation.proofs.Moves.{moves_keep}
 home_word : (g : ℕ) → g < 32 → home g ≡ 4 * g
 home_word g lt = grind (arith, nat_tests)
 
-module _ (s : Setting) (page : IsHomePage s.area s.guest s.host) (m : Map) (next : ℕ) where
+module _ (s : SimulationContext) (page : IsHomePage s.area s.guest s.host) (m : Map) (next : ℕ) where
   live_moves : (step : Move) → MovesOne m step → IsMove s next m (moved m step) (move_op m step ∷ [])
   live_moves (Drop slot) one =
       let g = moved_gpr m (Drop slot) in

@@ -14,7 +14,7 @@ use Rattle.machines.specs.Host.{goes_to as host_goes_to}
 use Rattle.machines.specs.Representation.{in_slot, location_place, IsHomePage}
 use Rattle.symbolic_tiles.specs.Perform.{core_behind, perform}
 use Rattle.symbolic_tiles.specs.Row.{GoesThrough, IsCore}
-use Rattle.simulation.specs.Setting.{Setting, Stood}
+use Rattle.simulation.specs.Context.{SimulationContext, MatchesState}
 use Rattle.simulation.specs.Plan.{IsMove}
 use Rattle.simulation.specs.Relation.{MovesKeep}
 use Rattle.symbolic_tiles.proofs.Memory.{update_keeps, store_other, store_byte, load_word}
@@ -29,7 +29,7 @@ word_size x lx = grind (arith, nat_tests)
 word_range : (x : ℕ) → x < 32 → location_range x ≡ 2 ^ 32
 word_range x lx = grind (arith, nat_tests)
 
-module _ (s : Setting) (page : IsHomePage s.area s.guest s.host) (from to : Map) (n : ℕ) (is_map : IsMap to) (ln : n < 32) (others : (x : ℕ) → x ≢ n → slot_of to x ≡ slot_of from x) where
+module _ (s : SimulationContext) (page : IsHomePage s.area s.guest s.host) (from to : Map) (n : ℕ) (is_map : IsMap to) (ln : n < 32) (others : (x : ℕ) → x ≢ n → slot_of to x ≡ slot_of from x) where
   abbrev new_place : Place
   new_place = location_place to s.area n
 
@@ -37,7 +37,7 @@ module _ (s : Setting) (page : IsHomePage s.area s.guest s.host) (from to : Map)
   value core = value_at core (location_place from s.area n)
 
   -- the GPR's value at its new place
-  moved : (g : Guest) (core : Core) → Stood s from g core → Stood s to g (put_at core new_place (value core))
+  moved : (g : Guest) (core : Core) → MatchesState s from g core → MatchesState s to g (put_at core new_place (value core))
   moved g core st = record {
     is_map = is_map;
     represents = record {
@@ -95,7 +95,7 @@ module _ (s : Setting) (page : IsHomePage s.area s.guest s.host) (from to : Map)
         let v : core.regs r ≡ value core = sym (ap (value_at core) (at_register from r ef)) in
         let e : puts s.host core (Memory 4 (s.area + home n)) (core.regs r) ≡ Some (put_at core new_place (value core)) =
         ap (puts s.host core (Memory 4 (s.area + home n))) v ∙ ap (λ p. puts s.host core p (value core)) (sym (at_home to et)) ∙ write_place to s.area s.guest s.host page n (value core) core (omega arith) in
-        subst (λ o. GoesThrough (core_behind (perform s.host []) (host_goes_to s.host 0 (record { core = core; eip = 0; choices = choices }) o)) (Stood s to g)) (sym e) (moved g core st);
+        subst (λ o. GoesThrough (core_behind (perform s.host []) (host_goes_to s.host 0 (record { core = core; eip = 0; choices = choices }) o)) (MatchesState s to g)) (sym e) (moved g core st);
   }
 
   -- and from its home to a register
@@ -106,7 +106,7 @@ module _ (s : Setting) (page : IsHomePage s.area s.guest s.host) (from to : Map)
         let e : reads s.host core (Memory 4 (s.area + home n)) ≡ Some (value core) = ap (reads s.host core) (sym (at_home from ef)) ∙ read_place from s.area s.guest s.host page n core (omega arith) in
         let p : put_at core new_place (value core) ≡ put_at core (Register r) (value core) = ap (λ q. put_at core q (value core)) (at_register to r et) in
         let c : Choice = record { value = 0; flags = 0 } in
-        subst (λ o. GoesThrough (core_behind (perform s.host []) (host_goes_to s.host 0 (record { core = core; eip = 0; choices = choices }) (bind o (λ v. Some (put_at core (Register r) v))))) (Stood s to g)) (sym e) (subst (Stood s to g) p (moved g core st));
+        subst (λ o. GoesThrough (core_behind (perform s.host []) (host_goes_to s.host 0 (record { core = core; eip = 0; choices = choices }) (bind o (λ v. Some (put_at core (Register r) v))))) (MatchesState s to g)) (sym e) (subst (MatchesState s to g) p (moved g core st));
   }
 
   -- where it is dead there is no op

@@ -8,18 +8,18 @@ use Rattle.runs.specs.Simulation.{Walks, stays, walks, Advance, onward, lost}
 use Rattle.machines.specs.Guest.{Guest}
 use Rattle.machines.specs.Host.{Choice, Core, Host}
 use Rattle.symbolic_tiles.specs.Perform.{perform}
-use Rattle.symbolic_tiles.specs.Standing.{StandAt}
+use Rattle.symbolic_tiles.specs.Standing.{OpsAt}
 use Rattle.symbolic_tiles.proofs.Walked.{ops_are_walked}
 use Rattle.code_layout.specs.Code.{op_at, ops_at}
-use Rattle.simulation.specs.Setting.{Setting, IsOffCode, JumpsTo, Stood}
+use Rattle.simulation.specs.Context.{SimulationContext, IsOffCode, JumpsTo, MatchesState}
 use Rattle.simulation.specs.Plan.{PlanStep, Move, word_count, room, HasFewMoves, IsMove, SwitchAt, BlockAt, Begins}
 use Rattle.simulation.proofs.Full.{goes_to}
-use Rattle.simulation.specs.Relation.{Meets, inside, leaving, gone, IsTranslation, HoldHolds}
+use Rattle.simulation.specs.Relation.{Simulates, inside, on_edge, off_code, IsTranslation, HoldHolds}
 
-module _ (s : Setting) where
+module _ (s : SimulationContext) where
   -- what the simulation is asked for from states that meet
   abbrev pub Steps : ℕ → ℕ → Guest → Host → Type 0
-  Steps p q g h = Advance s.guest_step s.host_step Anywhere (Meets s) p q g h
+  Steps p q g h = Advance s.guest_step s.host_step Anywhere (Simulates s) p q g h
 
   -- where a jump leads
   abbrev pub jumped : ℕ → Host → Host
@@ -30,11 +30,11 @@ module _ (s : Setting) where
     pub core : Core
     pub left : List Choice
     pub host_walks : Walks Anywhere s.host_step (length ops) h (record { core = core; eip = b; choices = left })
-    pub stood : Stood s to g core
+    pub stood : MatchesState s to g core
 
-  pub moves : (map to : Map) (ops : List Op) (g : Guest) (h : Host) (b : ℕ) → Stood s map g h.core → IsMove s g.next map to ops → StandAt s.host s.host_step h.eip (ops_at s.area ops) b → Moved to ops g h b
+  pub moves : (map to : Map) (ops : List Op) (g : Guest) (h : Host) (b : ℕ) → MatchesState s map g h.core → IsMove s g.next map to ops → OpsAt s.host s.host_step h.eip (ops_at s.area ops) b → Moved to ops g h b
   moves map to ops g h b stood move stand =
-      let d = goes_to (perform s.host (ops_at s.area ops) h.choices h.core) (Stood s to g) (move.moves g h.core h.choices refl stood) in
+      let d = goes_to (perform s.host (ops_at s.area ops) h.choices h.core) (MatchesState s to g) (move.moves g h.core h.choices refl stood) in
       let w = ops_are_walked s.host s.host_step (ops_at s.area ops) h.eip b h d.0 stand refl d.1 in
       record { core = d.0; left = w.0; host_walks = subst (λ n. Walks Anywhere s.host_step n h (record { core = d.0; eip = b; choices = w.0 })) (length-map ops (op_at s.area)) w.1; stood = d.2 }
 
@@ -46,17 +46,17 @@ module _ (s : Setting) where
   pub by_gone : (p q : ℕ) (g : Guest) (h : Host) → IsOffCode s g.next → p ≤ 64 → Steps p q g h
   by_gone p q g h off le_p = lost (record { k = 0; g' = g; guest_walks = stays; goes_outside = off g refl; in_block = omega arith })
 
-module _ (s : Setting) (t : IsTranslation s) where
+module _ (s : SimulationContext) (t : IsTranslation s) where
   -- the host stands where an edge to the guest's next word leads: at its block, or at `hold`
-  pub enters : (q : ℕ) (g : Guest) (h : Host) (map : Map) → q ≤ 28 → map ≡ s.entry_map g.next → Stood s map g h.core → h.eip ≡ s.target g.next → Meets s 0 q g h
+  pub enters : (q : ℕ) (g : Guest) (h : Host) (map : Map) → q ≤ 28 → map ≡ s.entry_map g.next → MatchesState s map g h.core → h.eip ≡ s.target g.next → Simulates s 0 q g h
   enters q g h map le_q e stood here = by_block (t.blocks g.next)
     where
-      by_block : Begins s g.next ⊎ (IsOffCode s g.next × (s.target g.next ≡ s.hold)) → Meets s 0 q g h
+      by_block : Begins s g.next ⊎ (IsOffCode s g.next × (s.target g.next ≡ s.hold)) → Simulates s 0 q g h
       by_block (inl b) =
           inside map b.steps stood (subst (λ a. BlockAt s map g.next a b.steps) (sym here) (subst (λ m. BlockAt s m g.next (s.target g.next) b.steps) (sym e) b.stands)) (omega (arith, b.in_block)) b.few (omega (arith, b.few_first))
-      by_block (inr o) = gone o.0 (here ∙ o.1) (omega arith) le_q
+      by_block (inr o) = off_code o.0 (here ∙ o.1) (omega arith) le_q
 
-  pub by_switch : (p q : ℕ) (g : Guest) (h : Host) (map : Map) (maps : List Map) → Stood s map g h.core → SwitchAt s g.next maps map h.eip → p ≤ 64 → q + 2 * length maps ≤ 26 → Steps s p q g h
+  pub by_switch : (p q : ℕ) (g : Guest) (h : Host) (map : Map) (maps : List Map) → MatchesState s map g h.core → SwitchAt s g.next maps map h.eip → p ≤ 64 → q + 2 * length maps ≤ 26 → Steps s p q g h
   by_switch p q g h map [] stood st le_p le_q =
       onward (record {
         k = 0;
@@ -83,13 +83,13 @@ module _ (s : Setting) (t : IsTranslation s) where
         h' = record { core = d.core; eip = st.1; choices = d.left };
         guest_walks = stays;
         host_walks = d.host_walks;
-        meets = leaving to maps d.stood st.4 le_p (omega arith);
+        meets = on_edge to maps d.stood st.4 le_p (omega arith);
         in_block = omega arith;
         slow = omega arith;
         fast = omega (arith, st.2.short);
       })
 
-  pub by_move : (p q : ℕ) (g : Guest) (h : Host) (map to : Map) (ops : List Op) (steps : List PlanStep) → Stood s map g h.core → BlockAt s map g.next h.eip (Move to ops ∷ steps) → p + word_count steps ≤ 64 → HasFewMoves steps → q + (2 + room steps) ≤ 40 → Steps s p q g h
+  pub by_move : (p q : ℕ) (g : Guest) (h : Host) (map to : Map) (ops : List Op) (steps : List PlanStep) → MatchesState s map g h.core → BlockAt s map g.next h.eip (Move to ops ∷ steps) → p + word_count steps ≤ 64 → HasFewMoves steps → q + (2 + room steps) ≤ 40 → Steps s p q g h
   by_move p q g h map to ops steps stood st in_block few le_q =
       let d = moves s map to ops g h st.0 stood st.1 st.2 in
       onward (record {

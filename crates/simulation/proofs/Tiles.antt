@@ -12,13 +12,13 @@ use Rattle.runs.proofs.Walking.{join_walks}
 use Rattle.machines.specs.Guest.{Guest}
 use Rattle.machines.specs.Host.{Choice, Core, Host}
 use Rattle.symbolic_tiles.specs.Perform.{perform}
-use Rattle.symbolic_tiles.specs.Row.{Window, IsReady, IsDone}
+use Rattle.symbolic_tiles.specs.Row.{Window, TilePrecondition, TilePostcondition}
 use Rattle.symbolic_tiles.proofs.Walked.{ops_are_walked}
 use Rattle.simulation.specs.Windows.{rows_of, behind_all}
 use Rattle.code_layout.specs.Code.{op_at, ops_at}
-use Rattle.simulation.specs.Setting.{Setting, Stood}
+use Rattle.simulation.specs.Context.{SimulationContext, MatchesState}
 use Rattle.simulation.specs.Plan.{PlanStep, Tile, BranchTile, word_count, room, HasFewMoves, EdgeAt, SwitchAt, TileAt, IsUnneeded, BlockAt}
-use Rattle.simulation.specs.Relation.{inside, leaving, IsTranslation}
+use Rattle.simulation.specs.Relation.{inside, on_edge, IsTranslation}
 use Rattle.simulation.proofs.Windows.{Passes, is_next, words_pass, other_goes}
 use Rattle.simulation.proofs.Full.{goes_to, full, full_alike, full_represents, full_in_range, walk_keeps}
 use Rattle.simulation.proofs.Switches.{Steps, jumped}
@@ -27,7 +27,7 @@ not_dead : (dead live : Bool) → (dead ≡ true → live ≡ false) → live �
 not_dead false live unneeded alive = refl
 not_dead true live unneeded alive = let e = unneeded refl in let f : true ≡ false = sym alive ∙ e in absurd cc
 
-module _ (s : Setting) where
+module _ (s : SimulationContext) where
   -- behind the ops of a tile whose words go on
   pub record Passed (map : Map) (words : List Instr) (window : Window) (ops : List Op) (g g' : Guest) (h : Host) (b : ℕ) : Type 0 where
     pub shown : Guest
@@ -39,15 +39,15 @@ module _ (s : Setting) where
     pub next : shown_after.next ≡ g'.next
     pub host_walks : Walks Anywhere s.host_step (length ops) h (record { core = core; eip = b; choices = left })
     pub condition : (c : Condition) → window.condition ≡ Some c → condition_holds c core.flags ≡ window.taken shown
-    pub stood : Stood s map g' core
+    pub stood : MatchesState s map g' core
 
-module _ (s : Setting) (t : IsTranslation s) where
-  pub passes : (map : Map) (words : List Instr) (window : Window) (ops : List Op) (g g' : Guest) (h : Host) (b : ℕ) → Stood s map g h.core → TileAt s map g.next words window ops h.eip b → rows_of s.guest words g ≡ Goes g' → IsUnneeded s window g'.next → Passed s map words window ops g g' h b
+module _ (s : SimulationContext) (t : IsTranslation s) where
+  pub passes : (map : Map) (words : List Instr) (window : Window) (ops : List Op) (g g' : Guest) (h : Host) (b : ℕ) → MatchesState s map g h.core → TileAt s map g.next words window ops h.eip b → rows_of s.guest words g ≡ Goes g' → IsUnneeded s window g'.next → Passed s map words window ops g g' h b
   passes map words window ops g g' h b stood tile goes unneeded =
       let shown = full map s.area h.core g in
       let other = other_goes s t.live words g.next g shown g' tile.0.fetched (is_next s words g) (full_alike s map g h.core stood) goes in
       let outcome : window.outcome s.guest shown ≡ Goes other.0 = tile.0.rows shown ∙ other.1 in
-      let ready : IsReady window map s.area s.guest s.host shown h.core = record {
+      let ready : TilePrecondition window map s.area s.guest s.host shown h.core = record {
         page = t.page;
         writes_held = t.writes_held;
         loads = λ a c. t.segments.held a (tile.0.inside.loads shown other.0 a outcome c);
@@ -56,7 +56,7 @@ module _ (s : Setting) (t : IsTranslation s) where
         in_range = full_in_range s map g h.core stood;
         is_core = stood.is_core;
       } in
-      let d = goes_to (perform s.host (ops_at s.area ops) h.choices h.core) (IsDone window map s.area s.guest shown other.0 h.core) (tile.0.does s.guest s.host shown other.0 h.core h.choices ready outcome) in
+      let d = goes_to (perform s.host (ops_at s.area ops) h.choices h.core) (TilePostcondition window map s.area s.guest shown other.0 h.core) (tile.0.does s.guest s.host shown other.0 h.core h.choices ready outcome) in
       let w = ops_are_walked s.host s.host_step (ops_at s.area ops) h.eip b h d.0 tile.1 refl d.1 in
       let walked = subst (λ n. Walks Anywhere s.host_step n h (record { core = d.0; eip = b; choices = w.0 })) (length-map ops (op_at s.area)) w.1 in
       record {
@@ -81,7 +81,7 @@ module _ (s : Setting) (t : IsTranslation s) where
         };
       }
 
-  pub by_tile : (p q : ℕ) (g : Guest) (h : Host) (map : Map) (words : List Instr) (window : Window) (ops : List Op) (steps : List PlanStep) → Stood s map g h.core → BlockAt s map g.next h.eip (Tile words window ops ∷ steps) → p + (length words + word_count steps) ≤ 64 → HasFewMoves steps → room steps ≤ 40 → q ≤ 40 → Steps s p q g h
+  pub by_tile : (p q : ℕ) (g : Guest) (h : Host) (map : Map) (words : List Instr) (window : Window) (ops : List Op) (steps : List PlanStep) → MatchesState s map g h.core → BlockAt s map g.next h.eip (Tile words window ops ∷ steps) → p + (length words + word_count steps) ≤ 64 → HasFewMoves steps → room steps ≤ 40 → q ≤ 40 → Steps s p q g h
   by_tile p q g h map words window ops steps stood st in_block few few_first le_q = by_rows (rows_of s.guest words g) refl (words_pass s words g.next g st.1.0.fetched (is_next s words g))
     where
       by_rows : (o : Outcome Guest) → rows_of s.guest words g ≡ o → Passes s (length words) g o → Steps s p q g h
@@ -105,13 +105,13 @@ module _ (s : Setting) (t : IsTranslation s) where
       by_rows (Asks call next) goes w = absurd w
       by_rows (Ends how) goes w = lost (record { k = w.0; g' = w.1; guest_walks = w.3; goes_outside = w.4; in_block = omega (arith, w.2) })
 
-  pub by_branch_tile : (p q : ℕ) (g : Guest) (h : Host) (map : Map) (words : List Instr) (window : Window) (ops : List Op) (condition : Condition) (target : ℕ) (steps : List PlanStep) → Stood s map g h.core → BlockAt s map g.next h.eip (BranchTile words window ops condition target ∷ steps) → p + (length words + word_count steps) ≤ 64 → q ≤ 40 → Steps s p q g h
+  pub by_branch_tile : (p q : ℕ) (g : Guest) (h : Host) (map : Map) (words : List Instr) (window : Window) (ops : List Op) (condition : Condition) (target : ℕ) (steps : List PlanStep) → MatchesState s map g h.core → BlockAt s map g.next h.eip (BranchTile words window ops condition target ∷ steps) → p + (length words + word_count steps) ≤ 64 → q ≤ 40 → Steps s p q g h
   by_branch_tile p q g h map words window ops condition target steps stood st in_block le_q = by_rows (rows_of s.guest words g) refl (words_pass s words g.next g st.3.0.fetched (is_next s words g))
     where
       after_all : ℕ
       after_all = behind_all g.next words
 
-      on : (g' : Guest) (h1 : Host) (to at : ℕ) → g'.next ≡ to → Walks Anywhere s.guest_step (length words) g g' → Walks Anywhere s.host_step (length ops) h h1 → s.host_step h1 ≡ Goes (jumped s at h1) → Stood s map g' h1.core → EdgeAt s map to at → Steps s p q g h
+      on : (g' : Guest) (h1 : Host) (to at : ℕ) → g'.next ≡ to → Walks Anywhere s.guest_step (length words) g g' → Walks Anywhere s.host_step (length ops) h h1 → s.host_step h1 ≡ Goes (jumped s at h1) → MatchesState s map g' h1.core → EdgeAt s map to at → Steps s p q g h
       on g' h1 to at next w hw jump stood' edge = onward (record {
         k = length words;
         j = length ops + 1;
@@ -121,7 +121,7 @@ module _ (s : Setting) (t : IsTranslation s) where
         h' = jumped s at h1;
         guest_walks = w;
         host_walks = join_walks Anywhere s.host_step (length ops) 1 h h1 (jumped s at h1) hw (walks tt jump stays);
-        meets = leaving map edge.0 stood' (subst (λ k. SwitchAt s k edge.0 map at) (sym next) edge.2) (omega arith) (omega (arith, edge.1));
+        meets = on_edge map edge.0 stood' (subst (λ k. SwitchAt s k edge.0 map at) (sym next) edge.2) (omega arith) (omega (arith, edge.1));
         in_block = omega arith;
         slow = omega arith;
         fast = omega (arith, st.3.0.some, st.3.0.few);
@@ -131,7 +131,7 @@ module _ (s : Setting) (t : IsTranslation s) where
       either true = st.5
       either false = st.6
 
-      by_taken : (g' : Guest) (h1 : Host) (b : Bool) → g'.next ≡ cond b target after_all → Walks Anywhere s.guest_step (length words) g g' → Walks Anywhere s.host_step (length ops) h h1 → s.host_step h1 ≡ Goes (jumped s (cond b st.1 st.2) h1) → Stood s map g' h1.core → Steps s p q g h
+      by_taken : (g' : Guest) (h1 : Host) (b : Bool) → g'.next ≡ cond b target after_all → Walks Anywhere s.guest_step (length words) g g' → Walks Anywhere s.host_step (length ops) h h1 → s.host_step h1 ≡ Goes (jumped s (cond b st.1 st.2) h1) → MatchesState s map g' h1.core → Steps s p q g h
       by_taken g' h1 true next w hw jump stood' = on g' h1 target st.1 next w hw jump stood' st.9
       by_taken g' h1 false next w hw jump stood' = on g' h1 after_all st.2 next w hw jump stood' st.10
 

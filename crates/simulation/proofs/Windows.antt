@@ -7,10 +7,10 @@ use Rattle.runs.specs.Simulation.{Walks, stays, walks}
 use Rattle.machines.specs.Guest.{Guest, acts, effect_of, behind}
 use Rattle.symbolic_tiles.specs.Straight.{IsStraight}
 use Rattle.simulation.specs.Windows.{then_row, rows_of, IsQuiet, IsLinked}
-use Rattle.simulation.specs.Setting.{Setting, IsWordAt, Alike, AreAlike, LiveIsEnough}
+use Rattle.simulation.specs.Context.{SimulationContext, IsWordAt, Alike, AreAlike, LiveIsEnough}
 use Rattle.simulation.specs.Plan.{AreWordsAt}
 
-module _ (s : Setting) where
+module _ (s : SimulationContext) where
   -- where the words begin; with none left nothing is asked
   abbrev pub NextIs : List Instr → ℕ → Guest → Type 0
   NextIs [] w g = Unit {0}

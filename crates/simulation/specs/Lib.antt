@@ -1,5 +1,5 @@
 pub mod Windows
-pub mod Setting
+pub mod Context
 pub mod Plan
 pub mod Relation
 pub mod Moves

@@ -6,7 +6,7 @@ use Rattle.ia_codec.specs.declared.op.Op.{Op}
 use Rattle.reg_map.specs.declared.moves.Move.{Move}
 use Rattle.reg_map.specs.Moves.{IsPossible, moved_gpr, moved, is_live, move_code}
 use Rattle.machines.specs.Representation.{IsHomePage}
-use Rattle.simulation.specs.Setting.{Setting}
+use Rattle.simulation.specs.Context.{SimulationContext}
 use Rattle.simulation.specs.Plan.{IsMove}
 
 -- one op, or none
@@ -18,5 +18,5 @@ ops_in None = []
 -- of its GPR whether it is.
 abbrev pub MoveCodesMove : Type 0
 MoveCodesMove =
-    (s : Setting) → IsHomePage s.area s.guest s.host → (m : Map) (step : Move) (next live : ℕ) → IsMap m → IsPossible m step →
+    (s : SimulationContext) → IsHomePage s.area s.guest s.host → (m : Map) (step : Move) (next live : ℕ) → IsMap m → IsPossible m step →
     is_live live (moved_gpr m step) ≡ s.live next (moved_gpr m step) → IsMove s next m (moved m step) (ops_in (move_code m step live))

@@ -12,14 +12,14 @@ use Rattle.runs.specs.Machine.{Goes}
 use Rattle.machines.specs.Guest.{Guest, executes, behind}
 use Rattle.machines.specs.Host.{Choice, Core}
 use Rattle.symbolic_tiles.specs.Perform.{perform}
-use Rattle.symbolic_tiles.specs.Row.{Window, GoesThrough, DoWindow}
+use Rattle.symbolic_tiles.specs.Row.{Window, GoesThrough, Implements}
 use Rattle.symbolic_tiles.specs.Flow.{IsBefore, Fits, flow}
-use Rattle.symbolic_tiles.specs.Standing.{StandsAt, StandAt, EdgeCode, ItemsAt}
+use Rattle.symbolic_tiles.specs.Standing.{OpAt, OpsAt, EdgeCode, ItemsAt}
 use Rattle.simulation.specs.Windows.{rows_of, behind_all, IsLinked}
 use Rattle.code_layout.specs.Leap.{leap_ops}
 use Rattle.code_layout.specs.Places.{no_registers}
 use Rattle.code_layout.specs.Code.{ops_at}
-use Rattle.simulation.specs.Setting.{Setting, IsWordAt, JumpsTo, ForksAt, Stood}
+use Rattle.simulation.specs.Context.{SimulationContext, IsWordAt, JumpsTo, ForksAt, MatchesState}
 
 -- A step of a block's plan, whose ops aren't over the home page yet: a move to another register map; a tile of ops for
 -- words; a tile for words of which the last is a branch on the condition that the ops leave; the tile of a flow word. The
@@ -50,17 +50,17 @@ abbrev pub HasFewMoves : List PlanStep → Type 0
 HasFewMoves [] = Unit {0}
 HasFewMoves (step ∷ steps) = (room steps ≤ 40) × HasFewMoves steps
 
-module _ (s : Setting) where
+module _ (s : SimulationContext) where
   -- Ops bring the registers from one map to another, where the next word is at a guest address: one op, or none.
   pub record IsMove (next : ℕ) (from to : Map) (ops : List Op) : Type 0 where
     pub short : length ops ≤ 1
-    pub moves : (g : Guest) (core : Core) (choices : List Choice) → g.next ≡ next → Stood s from g core → GoesThrough (perform s.host (ops_at s.area ops) choices core) (Stood s to g)
+    pub moves : (g : Guest) (core : Core) (choices : List Choice) → g.next ≡ next → MatchesState s from g core → GoesThrough (perform s.host (ops_at s.area ops) choices core) (MatchesState s to g)
 
   -- At a host address stands the code that leads from a map to a guest address: the moves to the maps of the list in
   -- turn, the last of which is the map under which the block there begins; then a jump to the block.
   abbrev pub SwitchAt : ℕ → List Map → Map → ℕ → Type 0
   SwitchAt next [] map a = (map ≡ s.entry_map next) × JumpsTo s a (s.target next)
-  SwitchAt next (to ∷ maps) map a = (ops : List Op) × (b : ℕ) × IsMove next map to ops × StandAt s.host s.host_step a (ops_at s.area ops) b × SwitchAt next maps to b
+  SwitchAt next (to ∷ maps) map a = (ops : List Op) × (b : ℕ) × IsMove next map to ops × OpsAt s.host s.host_step a (ops_at s.area ops) b × SwitchAt next maps to b
 
   -- an edge to a guest address: a switch of at most six moves
   abbrev pub EdgeAt : Map → ℕ → ℕ → Type 0
@@ -83,11 +83,11 @@ module _ (s : Setting) where
     pub fetched : AreWordsAt w words
     pub rows : (g : Guest) → window.outcome s.guest g ≡ rows_of s.guest words g
     pub inside : IsInside window
-    pub does : DoWindow window map s.area (ops_at s.area ops)
+    pub does : Implements window map s.area (ops_at s.area ops)
 
   -- From one host address up to another they stand.
   abbrev pub TileAt : Map → ℕ → List Instr → Window → List Op → ℕ → ℕ → Type 0
-  TileAt map w words window ops a b = IsTile map w words window ops × StandAt s.host s.host_step a (ops_at s.area ops) b
+  TileAt map w words window ops a b = IsTile map w words window ops × OpsAt s.host s.host_step a (ops_at s.area ops) b
 
   -- what is dead behind a window isn't live at a guest address
   abbrev pub IsUnneeded : Window → ℕ → Type 0
@@ -102,9 +102,9 @@ module _ (s : Setting) where
     pub compared : ℕ
     pub inside : ℕ
     pub end : ℕ
-    pub ops : StandAt s.host s.host_step a (leap_ops s.first s.count) compared
+    pub ops : OpsAt s.host s.host_step a (leap_ops s.first s.count) compared
     pub fork : ForksAt s NotBelow compared s.hold inside
-    pub jump : StandsAt s.host s.host_step inside (JmpTo (Base 0 s.table)) end
+    pub jump : OpAt s.host s.host_step inside (JmpTo (Base 0 s.table)) end
 
   -- what the table leads to at a guest address: the block, which begins with no GPR in a register, or the adapter to it
   abbrev pub DoorAt : ℕ → Type 0
@@ -130,7 +130,7 @@ module _ (s : Setting) where
   -- words stands at a guest address.
   abbrev pub BlockAt : Map → ℕ → ℕ → List PlanStep → Type 0
   BlockAt map w a [] = EdgeAt map w a
-  BlockAt map w a (Move to ops ∷ steps) = (b : ℕ) × IsMove w map to ops × StandAt s.host s.host_step a (ops_at s.area ops) b × BlockAt to w b steps
+  BlockAt map w a (Move to ops ∷ steps) = (b : ℕ) × IsMove w map to ops × OpsAt s.host s.host_step a (ops_at s.area ops) b × BlockAt to w b steps
   BlockAt map w a (Tile words window ops ∷ steps) = (b : ℕ) × TileAt map w words window ops a b × IsUnneeded window (behind_all w words) × LeadsTo w words (λ g. behind_all w words) × BlockAt map (behind_all w words) b steps
   BlockAt map w a (BranchTile words window ops condition target ∷ steps) =
       (b : ℕ) × (holds : ℕ) × (fails : ℕ) × TileAt map w words window ops a b × (window.condition ≡ Some condition)

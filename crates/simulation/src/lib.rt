@@ -3,4 +3,4 @@
 
 mod laws;
 
-pub use laws::{agrees, hold_holds, keeps_meeting, move_codes_move, moves_keep, settles};
+pub use laws::{agrees, hold_holds, keeps_simulation, move_codes_move, moves_keep, settles};

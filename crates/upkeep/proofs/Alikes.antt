@@ -3,13 +3,13 @@ use Rattle.std.proofs.Common.{◌≡◌, ℕ, true, refl, sym, ap, ◌∙◌, su
 use Rattle.std.proofs.Math.Path.{fun_ext}
 use Rattle.runs.specs.Machine.{Outcome, Goes, Asks, Ends}
 use Rattle.machines.specs.Guest.{Guest, executes}
-use Rattle.simulation.specs.Setting.{Setting, Alike, AreAlike}
+use Rattle.simulation.specs.Context.{SimulationContext, Alike, AreAlike}
 use Rattle.upkeep.specs.Steps.{AllLiveIsEnough}
 
 abbrev made : (ℕ → ℕ) → ℕ → (ℕ → ℕ) → Guest
 made locs next bytes = record { locs = locs; next = next; bytes = bytes }
 
-module _ (s : Setting) where
+module _ (s : SimulationContext) where
   alike_to_itself : (g : Guest) → Alike s g g
   alike_to_itself g = record { next = refl; locs = λ x live. refl; bytes = refl }
 

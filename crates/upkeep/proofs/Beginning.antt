@@ -12,7 +12,7 @@ use Rattle.machines.specs.Guest.{stack_start, guest_start}
 use Rattle.machines.specs.Host.{Choice, Core, choice_at, chosen_word, host_start}
 use Rattle.code_layout.specs.Places.{no_registers}
 use Rattle.elf_emit.specs.Translation.{home_page}
-use Rattle.simulation.specs.Setting.{Stood}
+use Rattle.simulation.specs.Context.{MatchesState}
 use Rattle.upkeep.specs.Loaded.{AreBytes, HaveBytes}
 use Rattle.upkeep.specs.Written.{as_data, home_segment, table_segment, code_segment, written_segments, WrittenHasBytes, WrittenStarts}
 use Rattle.upkeep.proofs.Memory.{byte_in_front, byte_behind, first_byte}
@@ -125,7 +125,7 @@ starts P Q area table code s choices free is are set =
     let bytes_are : core.bytes ≡ first_bytes (written_segments P area table code) = ap first_bytes is.segments in
     let shown : (x : ℕ) → x < 46 → load (home_size x) (s.area + home x) core.bytes ≡ update (λ y. 0) 1 stack_start x =
     λ x lt. ap (λ n. load (home_size x) (n + home x) core.bytes) set.area_is ∙ ap (λ f. load (home_size x) (area + home x) f) bytes_are ∙ at_start P area table code free x lt in
-    let stood : Stood s no_registers (guest_start P) core = record {
+    let stood : MatchesState s no_registers (guest_start P) core = record {
       is_map = no_registers_is_map;
       represents = record {
         locs = λ x lt live. shown x lt;

@@ -18,8 +18,8 @@ use Rattle.machines.specs.Readings.{Fetched}
 use Rattle.machines.specs.Host.{Choice, Core, Host, Place, Register, Memory, place_of, choice_at, has_result, extend_size, address_in, byte_for, puts_both, bind, values_of, reads, puts, put_at, leaves, gives_to, changes, sets, sets_byte, multiplies, unary_does, does, goes_to, plain, jumps, jumps_to, faults_on, divides, unary_acts, after_given, asks, system_call, acts, executes, op_bytes, host_step}
 use Rattle.machines.proofs.Tests.{first_of_both, second_of_both}
 use Rattle.symbolic_tiles.proofs.Memory.{update_other}
-use Rattle.simulation.specs.Setting.{Setting, KeepsUnwrittenBy}
-use Rattle.upkeep.specs.Steps.{KeepsUnwritten, StepKeepsUnwritten, HostKeepsUnwritten, SettingKeepsUnwritten}
+use Rattle.simulation.specs.Context.{SimulationContext, KeepsUnwritten, StepKeepsUnwritten}
+use Rattle.upkeep.specs.Steps.{HostKeepsUnwritten, ContextKeepsUnwritten}
 
 clash : (b : Bool) → b ≡ true → b ≡ false → ⊥
 clash true p q = cc
@@ -236,11 +236,5 @@ host_keeps rights code reading h = by_code (is_code code h.eip)
     by_code true = executes_keep rights (reading (op_bytes code h.eip)) h
     by_code false = tt
 
--- the relation's own words
-in_setting : (s : Setting) (before : Core) (o : Outcome Host) → StepKeepsUnwritten s.host before o → KeepsUnwrittenBy s before o
-in_setting s before (Goes h) keeps = keeps
-in_setting s before (Asks call next) keeps = keeps
-in_setting s before (Ends e) keeps = tt
-
-pub setting_keeps : SettingKeepsUnwritten
-setting_keeps s code reading is h = subst (KeepsUnwrittenBy s h.core) (sym (is h)) (in_setting s h.core (host_step s.host code reading h) (host_keeps s.host code reading h))
+pub context_keeps : ContextKeepsUnwritten
+context_keeps s code reading is h = subst (StepKeepsUnwritten s.host h.core) (sym (is h)) (host_keeps s.host code reading h)

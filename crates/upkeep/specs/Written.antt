@@ -10,7 +10,7 @@ use Rattle.machines.specs.Agreement.{without}
 use Rattle.machines.specs.Representation.{IsHomePage, HasSegments}
 use Rattle.symbolic_tiles.specs.Row.{WritesHeld}
 use Rattle.elf_emit.specs.Translation.{home_page}
-use Rattle.simulation.specs.Setting.{Setting}
+use Rattle.simulation.specs.Context.{SimulationContext}
 use Rattle.simulation.specs.Relation.{Starts}
 use Rattle.upkeep.specs.Loaded.{AreBytes, HaveBytes}
 
@@ -62,8 +62,8 @@ WrittenIsInPlace =
     (P Q : Program) (area : ℕ) (table code : List ℕ) → IsArea P.segments area → IsWritten P area table code Q →
     IsInPlace P area table code Q
 
--- A setting of the simulation with the memory of Q. The run of Q begins where the table leads at P's first word.
-pub record IsSettingOf (P Q : Program) (area : ℕ) (s : Setting) : Type 0 where
+-- A context of the simulation with the memory of Q. The run of Q begins where the table leads at P's first word.
+pub record IsContextOf (P Q : Program) (area : ℕ) (s : SimulationContext) : Type 0 where
   pub guest : s.guest ≡ rights_of P
   pub area_is : s.area ≡ area
   pub image : s.image ≡ first_bytes Q.segments
@@ -78,6 +78,6 @@ WrittenHasBytes =
 -- whatever the processor chooses, the simulation holds at the start
 abbrev pub WrittenStarts : Type 0
 WrittenStarts =
-    (P Q : Program) (area : ℕ) (table code : List ℕ) (s : Setting) (choices : List Choice) →
-    IsArea P.segments area → IsWritten P area table code Q → HaveBytes Q.segments → IsSettingOf P Q area s →
+    (P Q : Program) (area : ℕ) (table code : List ℕ) (s : SimulationContext) (choices : List Choice) →
+    IsArea P.segments area → IsWritten P area table code Q → HaveBytes Q.segments → IsContextOf P Q area s →
     Starts s (guest_start P) (host_start Q choices)

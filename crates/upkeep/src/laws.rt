@@ -2,13 +2,13 @@
 
 ghost use Rattle.upkeep.specs.Loaded.{LoadedHaveBytes};
 ghost use Rattle.upkeep.specs.Written.{WrittenIsInPlace, WrittenHasBytes, WrittenStarts};
-ghost use Rattle.upkeep.specs.Steps.{HostKeepsUnwritten, SettingKeepsUnwritten, AllLiveIsEnough};
+ghost use Rattle.upkeep.specs.Steps.{HostKeepsUnwritten, ContextKeepsUnwritten, AllLiveIsEnough};
 
 /// No step of the host, with any rights, changes a byte that may not be written, whatever the answer to
 /// its call.
 pub fn host_keeps_unwritten()
     ensures step { HostKeepsUnwritten }
-    ensures setting { SettingKeepsUnwritten }
+    ensures context { ContextKeepsUnwritten }
 {}
 
 /// Where every location is live, what isn't live makes no difference.

@@ -9,9 +9,9 @@ use Rattle.machines.specs.Guest.{guest_start}
 use Rattle.machines.specs.Host.{host_start}
 use Rattle.machines.specs.Agreement.{AgreesNarrowly}
 use Rattle.code_words.specs.Words.{first_of}
-use Rattle.simulation.specs.Setting.{Setting}
+use Rattle.simulation.specs.Context.{SimulationContext}
 use Rattle.simulation.specs.Relation.{IsTranslation}
-use Rattle.laid_code.specs.Instance.{setting_of, HasTableOf}
+use Rattle.laid_code.specs.Instance.{context_of, HasTableOf}
 use Rattle.upkeep.specs.Written.{narrow_rights, IsInPlace}
 use Rattle.agreement.specs.Plans.{HasPlans}
 use Rattle.agreement.proofs.plans_agree.Goals as goal
@@ -19,8 +19,8 @@ use Rattle.agreement.proofs.plans_agree.Goals as goal
 abbrev table_of : List ℕ → List ℕ
 table_of entries = flat_map (little_bytes 4) entries
 
--- the table stands in the memory of a setting of theirs
-has_table : (P Q : Program) (area : ℕ) (entries code : List ℕ) (s : Setting) → length (table_of entries) ≤ 0x80000 → IsArea P.segments area → IsInPlace P area (table_of entries) code Q →
+-- the table stands in the memory of a context of theirs
+has_table : (P Q : Program) (area : ℕ) (entries code : List ℕ) (s : SimulationContext) → length (table_of entries) ≤ 0x80000 → IsArea P.segments area → IsInPlace P area (table_of entries) code Q →
     s.host ≡ narrow_rights Q → s.table ≡ area + 0x1000 → s.image ≡ first_bytes Q.segments → HasTableOf s entries
 has_table P Q area entries code s room free place rights at image =
     let count : length (table_of entries) ≡ 4 * length entries = length_of_table entries in
@@ -38,13 +38,13 @@ returns c = λ interface P Q x.
     let table : List ℕ = table_of x.entries in
     let place = c.has_home.ensures P Q x.area table x.code x.is_area x.written in
     let narrowly : AgreesNarrowly P Q = λ reading ops reads_words reads_ops choices.
-    let s : Setting = setting_of interface x.targets reading ops P Q (first_of P) x.area x.entries in
+    let s : SimulationContext = context_of interface x.targets reading ops P Q (first_of P) x.area x.entries in
     let plans : HasPlans s = x.plans reading ops reads_words reads_ops in
     let holds : IsTranslation s = record {
       page = place.page;
       segments = place.segments;
       writes_held = place.writes_held;
-      keeps = c.host_keeps_unwritten.ensures.setting s (code_of Q) ops (λ h. refl);
+      keeps = c.host_keeps_unwritten.ensures.context s (code_of Q) ops (λ h. refl);
       live = plans.live;
       blocks = plans.blocks;
       has_table = c.tables_stand.ensures interface x.targets reading ops P Q (first_of P) x.words x.area x.entries x.has x.count x.low (has_table P Q x.area x.entries x.code s x.written.table_fits x.is_area place refl refl refl);

@@ -1,20 +1,20 @@
 use Rattle.runs.specs.Machine.{Anywhere}
 use Rattle.machines.specs.Guest.{Guest}
 use Rattle.machines.specs.Host.{Host}
-use Rattle.simulation.specs.Setting.{Setting}
-use Rattle.simulation.specs.Relation.{Meets, IsTranslation}
+use Rattle.simulation.specs.Context.{SimulationContext}
+use Rattle.simulation.specs.Relation.{Simulates, IsTranslation}
 use Rattle.simulation.proofs.Meeting.{bounded, advances}
 use Rattle.simulation.proofs.laws.agrees.Given as goal
 
 abbrev pub ghosts-agreement : goal.ghosts-agreement
 ghosts-agreement a = record {
-  Setting = (s : Setting) × IsTranslation s;
+  SimulationContext = (s : SimulationContext) × IsTranslation s;
   Guest = Guest;
   Host = Host;
   guest = λ st. st.0.guest_step;
   host = λ st. st.0.host_step;
   IsClean = λ st. Anywhere;
-  Meets = λ st. Meets st.0;
+  Simulates = λ st. Simulates st.0;
   is_bounded = λ st. bounded st.0;
   advances = λ st. advances st.0 st.1;
 }

@@ -20,7 +20,7 @@ use Rattle.symbolic_tiles.specs.Row.{IsCore}
 -- host address to which an edge leads, and that of the door, to which the table leads: the block, or the adapter before
 -- it; the first code word's address, how many there are, and where the table stands; and which locations are live before
 -- the word at an address.
-pub record Setting : Type 0 where
+pub record SimulationContext : Type 0 where
   pub guest : Rights
   pub host : Rights
   pub area : ℕ
@@ -36,7 +36,17 @@ pub record Setting : Type 0 where
   pub table : ℕ
   pub live : ℕ → ℕ → Bool
 
-module _ (s : Setting) where
+-- bytes that may not be written are the same in both
+abbrev pub KeepsUnwritten : Rights → Core → Core → Type 0
+KeepsUnwritten rights before after = (a : ℕ) → rights.writable a ≡ false → after.bytes a ≡ before.bytes a
+
+-- the same of what a step leads to, behind a call under every answer
+abbrev pub StepKeepsUnwritten : Rights → Core → Outcome Host → Type 0
+StepKeepsUnwritten rights before (Goes h) = KeepsUnwritten rights before h.core
+StepKeepsUnwritten rights before (Asks call next) = (a : AnswerValue) → KeepsUnwritten rights before (next a).core
+StepKeepsUnwritten rights before (Ends e) = Unit {0}
+
+module _ (s : SimulationContext) where
   -- a code word stands at a guest address: this instruction's, or an illegal one
   abbrev pub IsWordAt : ℕ → Option Instr → Type 0
   IsWordAt a word = (g : Guest) → g.next ≡ a → s.guest_step g ≡ executes s.guest word g
@@ -56,21 +66,12 @@ module _ (s : Setting) where
   -- The relation on one pair of states. The host represents the guest under the map, on what is live at the guest's next
   -- word; each location's place has a value that the location can have; and bytes that may not be written are as the file
   -- lays them, as those of the table, of the code and of unwritable segments.
-  pub record Stood (map : Map) (g : Guest) (core : Core) : Type 0 where
+  pub record MatchesState (map : Map) (g : Guest) (core : Core) : Type 0 where
     pub is_map : IsMap map
     pub represents : Represents map s.area (λ x. s.live g.next x ≡ true) s.guest.held g core
     pub in_range : (x : ℕ) → x < location_count → value_at core (location_place map s.area x) < location_range x
     pub is_core : IsCore core
     pub unwritten : (a : ℕ) → s.host.writable a ≡ false → core.bytes a ≡ s.image a
-
-  -- bytes that may not be written are the same in both
-  abbrev pub KeepsUnwritten : Core → Core → Type 0
-  KeepsUnwritten before after = (a : ℕ) → s.host.writable a ≡ false → after.bytes a ≡ before.bytes a
-
-  abbrev pub KeepsUnwrittenBy : Core → Outcome Host → Type 0
-  KeepsUnwrittenBy before (Goes h) = KeepsUnwritten before h.core
-  KeepsUnwrittenBy before (Asks call next) = (a : AnswerValue) → KeepsUnwritten before (next a).core
-  KeepsUnwrittenBy before (Ends e) = Unit {0}
 
   -- the other guest is the same, but for locations that aren't live at the next word
   pub record Alike (g other : Guest) : Type 0 where
