@@ -10,7 +10,7 @@ use Rattle.symbolic_tiles.specs.Row.{Implements}
 use Rattle.simulation.specs.Windows.{behind_all}
 use Rattle.simulation.specs.Context.{SimulationContext}
 use Rattle.simulation.specs.Plan.{IsTile, AreWordsAt, IsInside, IsUnneeded}
-use Rattle.simulation.specs.Relation.{IsTranslation, SimulationAdvances, inside}
+use Rattle.simulation.specs.Relation.{IsTranslation, SimulationAdvances, at_block}
 use Rattle.rule_body.specs.declared.rule.Rule.{Rule}
 use Rattle.rule_body.specs.Bodies.{lines_of}
 use Rattle.rule_meaning.specs.Matches.{Match}
@@ -100,8 +100,8 @@ module _ (one : (w : ℕ) → HasOneInstruction w) (s : SimulationContext) (t : 
 module _ (s : SimulationContext) (advances : SimulationAdvances s) where
   pub rule_keeps : RuleIsTile s → RuleKeeps s
   rule_keeps tiles rule words found map dead m to steps p q g h stood laid none is rest in_block few few_first le_q =
-      advances p q g h (inside map (tile_of rule found m ∷ steps) stood (tiles rule words found map dead m g.next h.eip to steps laid none is rest) in_block (few_first, few) (omega arith))
+      advances p q g h (at_block map (tile_of rule found m ∷ steps) stood (tiles rule words found map dead m g.next h.eip to steps laid none is rest) in_block (few_first, few) (omega arith))
 
   pub rule_branch_keeps : RuleIsBranchTile s → RuleBranchKeeps s
   rule_branch_keeps tiles rule words found map dead m to condition p q g h stood laid takes taken_dead next_dead forked in_block le_q =
-      advances p q g h (inside map (branch_tile_of rule found m condition g.next ∷ []) stood (tiles rule words found map dead m g.next h.eip to condition laid takes taken_dead next_dead forked) (omega arith) (omega arith, tt) (omega arith))
+      advances p q g h (at_block map (branch_tile_of rule found m condition g.next ∷ []) stood (tiles rule words found map dead m g.next h.eip to condition laid takes taken_dead next_dead forked) (omega arith) (omega arith, tt) (omega arith))

@@ -53,7 +53,7 @@ module _ (s : SimulationContext) (t : IsTranslation s) (map : Map) (is_map : IsM
   lands : (p most : ℕ) (before : Core) (g' shown : Guest) (exit : Exit) (h : Host) → p < 64 → IsUnwritten s h.core → Alike s g' shown → FitsGoing map s.area s.guest before shown exit → Reached most exit h → Lands s p most g' h
   lands p most before g' shown (Leaves target core) h lt_p unwritten alike fits r =
       let behind = subst (IsBehind map s.area s.guest shown before) (sym r.5) fits.1 in
-      let stood : MatchesState s map g' r.1.core = record {
+      let matches : MatchesState s map g' r.1.core = record {
         is_map = is_map;
         represents = record {
           locs = λ x lx alive. behind.represents.locs x lx tt ∙ alike.locs x alive;
@@ -64,10 +64,10 @@ module _ (s : SimulationContext) (t : IsTranslation s) (map : Map) (is_map : IsM
         unwritten = walk_keeps s t.keeps r.0 h r.1 r.3 unwritten;
       } in
       let edge : EdgeAt s map g'.next r.1.eip = subst (λ w. EdgeAt s map w r.1.eip) (fits.0 ∙ alike.next) (edges_stand _ r.4) in
-      record { j = r.0; p' = suc p; h' = r.1; few = omega (arith, r.2); slow = omega arith; host_walks = r.3; meets = on_edge map edge.0 stood edge.2 (omega arith) (omega (arith, edge.1)) }
+      record { j = r.0; p' = suc p; h' = r.1; few = omega (arith, r.2); slow = omega arith; host_walks = r.3; meets = on_edge map edge.0 matches edge.2 (omega arith) (omega (arith, edge.1)) }
   lands p most before g' shown (Leaps core) h lt_p unwritten alike fits r =
       let behind = subst (IsBehind map s.area s.guest shown before) (sym r.5) fits.1 in
-      let stood : MatchesState s map g' r.1.core = record {
+      let matches : MatchesState s map g' r.1.core = record {
         is_map = is_map;
         represents = record {
           locs = λ x lx alive. behind.represents.locs x lx tt ∙ alike.locs x alive;
@@ -78,7 +78,7 @@ module _ (s : SimulationContext) (t : IsTranslation s) (map : Map) (is_map : IsM
         unwritten = walk_keeps s t.keeps r.0 h r.1 r.3 unwritten;
       } in
       let leap = leaps_stand r.1.eip r.4 in
-      let d = leaps_to s t map g' r.1 stood (ap leap_target r.5 ∙ fits.0 ∙ alike.next) leap.1 in
+      let d = leaps_to s t map g' r.1 matches (ap leap_target r.5 ∙ fits.0 ∙ alike.next) leap.1 in
       by_door r.0 r.1 r.2 r.3 leap.0 d (t.doors g'.next)
     where
       by_door : (i : ℕ) (h1 : Host) → i ≤ most → Walks Anywhere s.host_step i h h1 → map ≡ no_registers → (d : Leapt s t map g' h1) → DoorAt s g'.next → Lands s p most g' h
@@ -89,7 +89,7 @@ module _ (s : SimulationContext) (t : IsTranslation s) (map : Map) (is_map : IsM
         few = omega (arith, le, d.few);
         slow = omega (arith, d.some);
         host_walks = join_walks Anywhere s.host_step i d.j h h1 d.h' w d.host_walks;
-        meets = enters s t 0 g' d.h' map (omega arith) (empty ∙ sym at.1) d.stood (d.here ∙ at.0);
+        meets = enters s t 0 g' d.h' map (omega arith) (empty ∙ sym at.1) d.matches (d.here ∙ at.0);
       }
       by_door i h1 le w empty d (inr edge) = record {
         j = i + d.j;
@@ -98,7 +98,7 @@ module _ (s : SimulationContext) (t : IsTranslation s) (map : Map) (is_map : IsM
         few = omega (arith, le, d.few);
         slow = omega arith;
         host_walks = join_walks Anywhere s.host_step i d.j h h1 d.h' w d.host_walks;
-        meets = on_edge map edge.0 d.stood (subst (λ a. SwitchAt s g'.next edge.0 map a) (sym d.here) (subst (λ m. SwitchAt s g'.next edge.0 m (s.door g'.next)) (sym empty) edge.2)) (omega arith) (omega (arith, edge.1));
+        meets = on_edge map edge.0 d.matches (subst (λ a. SwitchAt s g'.next edge.0 map a) (sym d.here) (subst (λ m. SwitchAt s g'.next edge.0 m (s.door g'.next)) (sym empty) edge.2)) (omega arith) (omega (arith, edge.1));
       }
   lands p most before g' shown (Stops e) h lt_p unwritten alike fits r = absurd fits
   lands p most before g' shown (Calls call exits) h lt_p unwritten alike fits r = absurd fits
@@ -160,16 +160,16 @@ module _ (s : SimulationContext) (t : IsTranslation s) (map : Map) (is_map : IsM
 
 module _ (s : SimulationContext) (t : IsTranslation s) where
   pub by_flow : (p q : ℕ) (g : Guest) (h : Host) (map : Map) (word : Option Instr) (items : List FlowOp) → MatchesState s map g h.core → FlowAt s map g.next word items h.eip → p < 64 → q ≤ 40 → Steps s p q g h
-  by_flow p q g h map word items stood st lt_p le_q =
+  by_flow p q g h map word items matches st lt_p le_q =
       let shown = full map s.area h.core g in
-      let alike = full_alike s map g h.core stood in
+      let alike = full_alike s map g h.core matches in
       let before : IsBefore map s.area s.guest s.host shown h.core = record {
         page = t.page;
         segments = t.segments;
         writes_held = t.writes_held;
-        represents = full_represents s map g h.core stood;
-        in_range = full_in_range s map g h.core stood;
-        is_core = stood.is_core;
+        represents = full_represents s map g h.core matches;
+        in_range = full_in_range s map g h.core matches;
+        is_core = matches.is_core;
       } in
-      by_exit s t map stood.is_map st.labels st.edges st.leaps st.edges_stand st.leaps_stand p q (length items) g h (executes s.guest word g) (executes s.guest word shown) (flow s.host s.area items None h.choices h.core) lt_p le_q st.tile.few stood.unwritten (st.tile.fetched g refl) (t.live word g shown st.tile.fetched alike)
+      by_exit s t map matches.is_map st.labels st.edges st.leaps st.edges_stand st.leaps_stand p q (length items) g h (executes s.guest word g) (executes s.guest word shown) (flow s.host s.area items None h.choices h.core) lt_p le_q st.tile.few matches.unwritten (st.tile.fetched g refl) (t.live word g shown st.tile.fetched alike)
       (st.tile.fits shown h.core h.choices refl before) (flows_are_walked s.host s.area s.host_step st.labels st.edges st.leaps items None h.eip h st.stand refl)

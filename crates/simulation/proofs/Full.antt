@@ -18,7 +18,7 @@ full map area core g = record g { locs = λ x. cond (ltb x location_count) (valu
 pub full_at : (map : Map) (area : ℕ) (core : Core) (g : Guest) (x : ℕ) → x < location_count → (full map area core g).locs x ≡ value_at core (location_place map area x)
 full_at map area core g x lx = ap (λ b. cond b (value_at core (location_place map area x)) (g.locs x)) (lt-ltb x location_count lx)
 
-module _ (s : SimulationContext) (map : Map) (g : Guest) (core : Core) (stood : MatchesState s map g core) where
+module _ (s : SimulationContext) (map : Map) (g : Guest) (core : Core) (matches : MatchesState s map g core) where
   abbrev shown : Guest
   shown = full map s.area core g
 
@@ -26,14 +26,14 @@ module _ (s : SimulationContext) (map : Map) (g : Guest) (core : Core) (stood : 
   full_alike = record { next = refl; locs = λ x alive. by_test x alive (ltb x location_count) refl; bytes = refl }
     where
       by_test : (x : ℕ) → s.live g.next x ≡ true → (b : Bool) → ltb x location_count ≡ b → cond b (value_at core (location_place map s.area x)) (g.locs x) ≡ g.locs x
-      by_test x alive true e = stood.represents.locs x (ltb-true x location_count e) alive
+      by_test x alive true e = matches.represents.locs x (ltb-true x location_count e) alive
       by_test x alive false e = refl
 
   pub full_represents : Represents map s.area Any s.guest.held shown core
-  full_represents = record { locs = λ x lx t. sym (full_at map s.area core g x lx); bytes = stood.represents.bytes }
+  full_represents = record { locs = λ x lx t. sym (full_at map s.area core g x lx); bytes = matches.represents.bytes }
 
   pub full_in_range : AreInRange shown
-  full_in_range x lx = subst (λ v. v < location_range x) (sym (full_at map s.area core g x lx)) (stood.in_range x lx)
+  full_in_range x lx = subst (λ v. v < location_range x) (sym (full_at map s.area core g x lx)) (matches.in_range x lx)
 
 -- where a fact holds through, there is a core
 pub goes_to : (o : Option Core) (P : Core → Type 0) → GoesThrough o P → (core : Core) × (o ≡ Some core) × P core

@@ -92,14 +92,14 @@ module _ (s : SimulationContext) (t : IsTranslation s) where
     pub some : 1 ≤ j
     pub few : j ≤ 6
     pub host_walks : Walks Anywhere s.host_step j h h'
-    pub stood : MatchesState s map g h'.core
+    pub matches : MatchesState s map g h'.core
     pub here : h'.eip ≡ s.door g.next
 
   pub leaps : (map : Map) (g : Guest) (h : Host) → MatchesState s map g h.core → leap_target h.core ≡ g.next → LeapAt s h.eip → Leapt map g h
-  leaps map g h stood to leap = by_place (place_of s.first s.count g.next (omega (arith, to, word)) t.has_table.first_word t.has_table.low t.has_table.aligned (omega (arith, to)))
+  leaps map g h matches to leap = by_place (place_of s.first s.count g.next (omega (arith, to, word)) t.has_table.first_word t.has_table.low t.has_table.aligned (omega (arith, to)))
     where
       word : h.core.regs 1 < 2 ^ 32
-      word = stood.is_core.words 1
+      word = matches.is_core.words 1
 
       offset : ℕ
       offset = difference_word g.next s.first false
@@ -120,17 +120,17 @@ module _ (s : SimulationContext) (t : IsTranslation s) where
       flags = ap (λ k. difference_flags (difference_word k s.first false) (4 * s.count) false) cut
 
       unwritten : IsUnwritten s core
-      unwritten = walk_keeps s t.keeps 4 h h1 walked.1 stood.unwritten
+      unwritten = walk_keeps s t.keeps 4 h h1 walked.1 matches.unwritten
 
-      stood' : MatchesState s map g core
-      stood' = record {
-        is_map = stood.is_map;
+      matches' : MatchesState s map g core
+      matches' = record {
+        is_map = matches.is_map;
         represents = record {
-          locs = λ x lx alive. place_kept map s.area s.first s.count h.core x ∙ stood.represents.locs x lx alive;
-          bytes = stood.represents.bytes;
+          locs = λ x lx alive. place_kept map s.area s.first s.count h.core x ∙ matches.represents.locs x lx alive;
+          bytes = matches.represents.bytes;
         };
-        in_range = λ x lx. subst (λ v. v < location_range x) (sym (place_kept map s.area s.first s.count h.core x)) (stood.in_range x lx);
-        is_core = compared_core s.first s.count h.core stood.is_core;
+        in_range = λ x lx. subst (λ v. v < location_range x) (sym (place_kept map s.area s.first s.count h.core x)) (matches.in_range x lx);
+        is_core = compared_core s.first s.count h.core matches.is_core;
         unwritten = unwritten;
       }
 
@@ -150,7 +150,7 @@ module _ (s : SimulationContext) (t : IsTranslation s) where
             some = omega arith;
             few = omega arith;
             host_walks = join_walks Anywhere s.host_step 4 1 h h1 h2 walked.1 (walks tt (forked false f.0) stays);
-            stood = stood';
+            matches = matches';
             here = sym (t.has_table.off g.next (omega (arith, to, word)) (omega (arith, to)) f.1);
           }
       by_place (inl f) =
@@ -162,7 +162,7 @@ module _ (s : SimulationContext) (t : IsTranslation s) where
             some = omega arith;
             few = omega arith;
             host_walks = join_walks Anywhere s.host_step 4 2 h h1 h3 walked.1 (walks tt (forked true f.0) (walks tt (leap.jump h2 refl ∙ ap (λ o. jumps_to s.host o h2) (read f.1)) stays));
-            stood = stood';
+            matches = matches';
             here = refl;
           }
         where

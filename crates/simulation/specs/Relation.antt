@@ -23,7 +23,7 @@ module _ (s : SimulationContext) where
   -- guest has left its code, and the host stands at `hold`. p counts the guest's instructions since the block began, and q
   -- the host's ops since the last of them.
   pub data Simulates (p q : ℕ) (g : Guest) (h : Host) : Type 0 where
-    inside : (map : Map) (steps : List PlanStep) → MatchesState s map g h.core → BlockAt s map g.next h.eip steps → p + word_count steps ≤ 64 → HasFewMoves steps → q + room steps ≤ 40 → Simulates p q g h
+    at_block : (map : Map) (steps : List PlanStep) → MatchesState s map g h.core → BlockAt s map g.next h.eip steps → p + word_count steps ≤ 64 → HasFewMoves steps → q + room steps ≤ 40 → Simulates p q g h
     on_edge : (map : Map) (maps : List Map) → MatchesState s map g h.core → SwitchAt s g.next maps map h.eip → p ≤ 64 → q + 2 * length maps ≤ 26 → Simulates p q g h
     off_code : IsOffCode s g.next → h.eip ≡ s.hold → p ≤ 64 → q ≤ 28 → Simulates p q g h
 
@@ -42,7 +42,7 @@ module _ (s : SimulationContext) where
 
   -- where the runs begin: the host stands where the table leads at the guest's first word, with no GPR in a register
   pub record Starts (g : Guest) (h : Host) : Type 0 where
-    pub stood : MatchesState s no_registers g h.core
+    pub matches : MatchesState s no_registers g h.core
     pub here : h.eip ≡ s.door g.next
 
   abbrev pub SimulationIsBounded : Type 0

@@ -125,7 +125,7 @@ starts P Q area table code s choices free is are set =
     let bytes_are : core.bytes ≡ first_bytes (written_segments P area table code) = ap first_bytes is.segments in
     let shown : (x : ℕ) → x < 46 → load (home_size x) (s.area + home x) core.bytes ≡ update (λ y. 0) 1 stack_start x =
     λ x lt. ap (λ n. load (home_size x) (n + home x) core.bytes) set.area_is ∙ ap (λ f. load (home_size x) (area + home x) f) bytes_are ∙ at_start P area table code free x lt in
-    let stood : MatchesState s no_registers (guest_start P) core = record {
+    let matches : MatchesState s no_registers (guest_start P) core = record {
       is_map = no_registers_is_map;
       represents = record {
         locs = λ x lt live. shown x lt;
@@ -136,6 +136,6 @@ starts P Q area table code s choices free is are set =
       unwritten = λ a off. ap (λ (f : ℕ → ℕ). f a) (sym set.image);
     } in
     record {
-      stood = stood;
+      matches = matches;
       here = set.entry;
     }
