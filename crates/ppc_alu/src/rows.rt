@@ -1,10 +1,11 @@
 //! The choice of the row.
 
-ghost use Rattle.std.specs.Prelude.{◌≡◌, ◌≤◌, ℕ, Bool, false, IfOk, OnOk, OnErr, IsTrue};
+ghost use Rattle.std.specs.Prelude.{◌≡◌, false, IfOk, OnErr, IsTrue};
+ghost use Rattle.word_kit.specs.Algebra.{MayUntie};
 ghost use Rattle.ppc_isa.specs.Legal.{layout, IsLegal};
 ghost use Rattle.ppc_isa.specs.Rows.{guest_row};
 ghost use Rattle.ppc_isa.specs.Word.{Fit};
-ghost use Rattle.ppc_parts.specs.Meanings.{IsOwned, EffectOwned, values_of, effect_of};
+ghost use Rattle.ppc_parts.specs.Meanings.{IsOwned, values_of, GivesEffect};
 ghost use Rattle.ppc_alu.specs.RowTerms.{is_product_row, row_term};
 
 use ppc_bits::{logic_immediate_row, logic_row, logic_unary_row, rotate, srawi};
@@ -25,15 +26,11 @@ use word_kit::{Alg, NoMemory};
 fn row<A: Alg>(alg: &mut A, instr: &Instr, from: &GuestIn<A>) -> Result<Effect<A>, NoMemory>
     requires fit { Fit (layout instr.now) }
     requires owned { IsOwned A.word_reach (A.extent alg.old) from.now }
-    ensures grows { A.extent alg.old ≤ A.extent alg.new }
-    ensures earlier { (v : ℕ → Bool) → A.admits alg.new v → A.admits alg.old v }
-    ensures rises { A.opaque alg.old ≤ A.opaque alg.new }
+    ensures later { MayUntie A.Alg alg.old alg.new }
     ensures opaque { is_product_row instr.now ≡ false → A.opaque alg.new ≡ A.opaque alg.old }
-    ensures made { IfOk result (λ r. r ≡ (row_term A.ops instr.now (A.held alg.old) from.now).effect) }
-    ensures held { OnOk result (A.held alg.new ≡ (row_term A.ops instr.now (A.held alg.old) from.now).held) }
+    ensures makes { IfOk result (λ r. record { effect = r; held = A.held alg.new } ≡ row_term A.ops instr.now (A.held alg.old) from.now) }
     ensures fails { OnErr result (IsTrue A.takes_memory) }
-    ensures owned { IfOk result (λ r. EffectOwned A.word_reach A.flag_reach (A.extent alg.new) r) }
-    ensures means { IfOk result (λ r. (v : ℕ → Bool) → A.admits alg.new v → effect_of (λ w. A.word w v) (λ b. A.truth b v) r ≡ guest_row instr.now (values_of (λ w. A.word w v) from.now)) }
+    ensures gives { IfOk result (λ r. GivesEffect A.Alg alg.new r (λ v. guest_row instr.now (values_of (λ w. A.word w v) from.now))) }
 {
     match *instr {
         Instr::Immediate { op, a, .. } => immediate_row(alg, op, a, from),
@@ -88,15 +85,11 @@ fn row<A: Alg>(alg: &mut A, instr: &Instr, from: &GuestIn<A>) -> Result<Effect<A
 pub fn effect<A: Alg>(alg: &mut A, instr: &Instr, from: &GuestIn<A>) -> Result<Effect<A>, NoMemory>
     requires legal { IsLegal instr.now }
     requires owned { IsOwned A.word_reach (A.extent alg.old) from.now }
-    ensures grows { A.extent alg.old ≤ A.extent alg.new }
-    ensures earlier { (v : ℕ → Bool) → A.admits alg.new v → A.admits alg.old v }
-    ensures rises { A.opaque alg.old ≤ A.opaque alg.new }
+    ensures later { MayUntie A.Alg alg.old alg.new }
     ensures opaque { is_product_row instr.now ≡ false → A.opaque alg.new ≡ A.opaque alg.old }
-    ensures made { IfOk result (λ r. r ≡ (row_term A.ops instr.now (A.held alg.old) from.now).effect) }
-    ensures held { OnOk result (A.held alg.new ≡ (row_term A.ops instr.now (A.held alg.old) from.now).held) }
+    ensures makes { IfOk result (λ r. record { effect = r; held = A.held alg.new } ≡ row_term A.ops instr.now (A.held alg.old) from.now) }
     ensures fails { OnErr result (IsTrue A.takes_memory) }
-    ensures owned { IfOk result (λ r. EffectOwned A.word_reach A.flag_reach (A.extent alg.new) r) }
-    ensures means { IfOk result (λ r. (v : ℕ → Bool) → A.admits alg.new v → effect_of (λ w. A.word w v) (λ b. A.truth b v) r ≡ guest_row instr.now (values_of (λ w. A.word w v) from.now)) }
+    ensures gives { IfOk result (λ r. GivesEffect A.Alg alg.new r (λ v. guest_row instr.now (values_of (λ w. A.word w v) from.now))) }
 {
     row(alg, instr, from)
 }
