@@ -1,5 +1,5 @@
 -- The constant of a word is that of its instruction. This project's own.
-use Rattle.std.proofs.Common.{◌≡◌, ℕ, zero, suc, ◌+◌, ◌-◌, List, [], ◌∷◌, slice_get, Option, Some, None, refl, sym, ap, ◌∙◌, subst, arith}
+use Rattle.std.proofs.Common.{◌≡◌, ℕ, zero, suc, List, [], ◌∷◌, slice_get, Some, None, refl, subst}
 use Rattle.ppc_isa.specs.declared.instr.Instr.{Instr}
 use Rattle.ppc_isa.specs.Legal.{IsWordOf}
 use Rattle.rule_meaning.specs.Laid.{AreWordsOf}

@@ -1,4 +1,4 @@
-use Rattle.std.proofs.Common.{◌≡◌, slice_get, Some, None, refl, sym, ap, ◌∙◌}
+use Rattle.std.proofs.Common.{refl, sym, ap, ◌∙◌}
 use Rattle.std.proofs.lemmas.Option.{slice_get_read, slice_get_past}
 use Rattle.rule_match.specs.Bindings.{constant_of}
 use Rattle.rule_match.proofs.Constants.{no_constant, its_constant, not_none, same_instr}
