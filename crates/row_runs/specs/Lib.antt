@@ -1,0 +1,4 @@
+pub mod Accesses
+pub mod Windows
+pub mod Bodies
+pub mod Oracles
