@@ -40,7 +40,7 @@ use Rattle.upkeep.specs.Written.{narrow_rights}
 use Rattle.plan_example.specs.Example.{program, translation, first, entries, entry_map, adds, back, in_ebx, in_esi, from_none, from_esi, from_ebx, both_adds, one, behind_one, first_plan, last_plan, second_plan, third_plan, area, hold, first_block, last_block, second_block, third_block, adapter, target}
 use Rattle.plan_example.proofs.Words.{legal_adds, legal_back, word_1, word_2, word_3, word_4, which, has_words}
 use Rattle.plan_example.proofs.Window.{after, goes_same, adds_five}
-use Rattle.plan_example.proofs.SimulationContext.{s, word_at, off_code, are_placed, runs, first_stands, last_stands, second_stands, third_stands, adapter_stands}
+use Rattle.plan_example.proofs.Context.{s, word_at, off_code, are_placed, runs, first_stands, last_stands, second_stands, third_stands, adapter_stands}
 
 ebx_map : IsMap in_ebx
 ebx_map = record { ebx = omega arith; esi = tt; edi = tt; ebx_esi = tt; ebx_edi = tt; esi_edi = tt }

@@ -8,7 +8,7 @@ use Rattle.code_layout.specs.Code.{items_bytes}
 use Rattle.upkeep.specs.Loaded.{AreBytes, HaveBytes}
 use Rattle.upkeep.specs.Written.{IsWritten}
 use Rattle.plan_example.specs.Example.{program, translation, area, word_bytes, table, code, entries}
-use Rattle.plan_example.proofs.SimulationContext.{code_length}
+use Rattle.plan_example.proofs.Context.{code_length}
 
 pub is_area : IsArea program.segments area
 is_area = record {

@@ -1,7 +1,7 @@
 use Rattle.std.proofs.Common.{refl}
 use Rattle.plan_example.specs.Example.{program, translation, interface, area, entries, table, code, words, target}
 use Rattle.plan_example.proofs.Words.{has_words}
-use Rattle.plan_example.proofs.SimulationContext.{s, hold_holds}
+use Rattle.plan_example.proofs.Context.{s, hold_holds}
 use Rattle.plan_example.proofs.Blocks.{blocks_at, doors_at}
 use Rattle.plan_example.proofs.Whole.{is_area, is_written, program_bytes, table_bytes, code_bytes, entry_low}
 use Rattle.plan_example.proofs.laws.plans_agree.Goals as goal
