@@ -50,12 +50,12 @@ abbrev pub gpr_of : Binding → ℕ → ℕ
 gpr_of b p = slice_index_or b.gpr (p - 1) 0
 
 -- the register for ebx, esi or edi of a body: that of the slot in which the first, second or third of the parameters in slots is
-abbrev pub slot_of : Binding → ℕ → ℕ
-slot_of b r = slot_register (slice_index_or b.slot (if r == ebx then 0 else if r == esi then 1 else 2) 0)
+abbrev pub register_for : Binding → ℕ → ℕ
+register_for b r = slot_register (slice_index_or b.slot (if r == ebx then 0 else if r == esi then 1 else 2) 0)
 
 -- the match of a binding at instructions
 abbrev pub match_of : List Instr → Binding → Match
-match_of found b = record { gpr = gpr_of b; register = slot_of b; constant = constant_at found; target = last_target found; absolute = last_absolute found }
+match_of found b = record { gpr = gpr_of b; register = register_for b; constant = constant_at found; target = last_target found; absolute = last_absolute found }
 
 -- the ops of a rule for a binding at instructions
 abbrev pub instantiated : Rule → List Instr → Binding → List Op

@@ -1,7 +1,7 @@
 use Rattle.std.proofs.Common.{◌≤◌}
 use Rattle.std.specs.List.{All}
 use Rattle.word_kit.specs.Formulas.{IsLiteral, variable}
-use Rattle.sat_core.proofs.tests.clause.Given as goal
+use Rattle.sat_tests.proofs.searches.clause.Given as goal
 
 abbrev pub invariant-loop-number : goal.invariant-loop-number
 invariant-loop-number l = record {

@@ -1,7 +1,7 @@
 use Rattle.std.proofs.Common.{◌≤◌}
 use Rattle.std.specs.List.{All}
 use Rattle.word_kit.specs.Formulas.{AreClauses, variable}
-use Rattle.sat_core.proofs.tests.clauses.Given as goal
+use Rattle.sat_tests.proofs.searches.clauses.Given as goal
 
 abbrev pub invariant-loop-numbers : goal.invariant-loop-numbers
 invariant-loop-numbers l = record {
