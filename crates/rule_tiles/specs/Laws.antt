@@ -12,7 +12,7 @@ use Rattle.symbolic_tiles.specs.Standing.{OpsAt}
 use Rattle.simulation.specs.Windows.{behind_all}
 use Rattle.simulation.specs.Context.{SimulationContext, IsWordAt, ForksAt, MatchesState}
 use Rattle.simulation.specs.Plan.{PlanStep, Tile, BranchTile, word_count, room, HasFewMoves, EdgeAt, BlockAt}
-use Rattle.simulation.specs.Relation.{Meets}
+use Rattle.simulation.specs.Relation.{Simulates}
 use Rattle.rule_body.specs.declared.rule.Rule.{Rule}
 use Rattle.rule_body.specs.Rules.{IsRule}
 use Rattle.rule_meaning.specs.Matches.{Match}
@@ -77,7 +77,7 @@ module _ (s : SimulationContext) where
       BlockAt s map w from (branch_tile_of rule found m condition w ∷ [])
 
   abbrev pub Advances : ℕ → ℕ → Guest → Host → Type 0
-  Advances p q g h = Advance s.guest_step s.host_step Anywhere (Meets s) p q g h
+  Advances p q g h = Advance s.guest_step s.host_step Anywhere (Simulates s) p q g h
 
   -- So where the states stand for each other before such a tile the simulation goes on: the guest through the words and the
   -- host through the ops to states that meet again, or the guest through some of the words and then outside.
