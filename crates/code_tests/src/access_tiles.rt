@@ -1,9 +1,8 @@
 //! Tiles as bytes, by hand from the table of tiles.
 
+use crate::tile_bytes::{price, spelled};
 use base_mem::{emit, is_built};
-use ia_codec::{Op, cost, encode, in_profile};
 use ppc_isa::{Map, decode};
-use std::alloc::Global;
 use std::test::Fail;
 
 // Each line: a word, its tile's bytes with r4 in ebx and r5 in esi, and their price.
@@ -19,35 +18,6 @@ ac650006 89f281c2060000000fb782000000000fc8c1f81089050c00000089d6 11
 7c60272c 89da8b050c00000066898200000000 7
 bba40004 89da81c2040000008b82000000000fc88905740000008b82040000000fc88905780000008b82080000000fc889057c000000 23
 bfc00008 ba080000008b05780000000fc88982000000008b057c0000000fc8898204000000 15";
-
-fn bytes_of(alloc: Global, text: &str) -> Result<Vec<u8, Global>, Fail> {
-    let mut bytes = Vec::new(alloc);
-    for i in 0..text.len() / 2 {
-        let pair = text.get(2 * i..2 * i + 2).unwrap_or("");
-        bytes.push(u8::from_str_radix(pair, 16)?)?;
-    }
-    Ok(bytes)
-}
-
-// The ops' bytes; none for an op that has no spelling.
-fn spelled(alloc: Global, ops: &[Op]) -> Result<Vec<u8, Global>, Fail> {
-    let mut bytes = Vec::new(alloc);
-    for op in ops {
-        if in_profile(op) {
-            let spelling = encode(op);
-            bytes.extend_from_slice(&spelling.bytes[..spelling.len as usize])?;
-        }
-    }
-    Ok(bytes)
-}
-
-fn price(ops: &[Op]) -> u32 {
-    let mut sum = 0u32;
-    for op in ops {
-        sum = sum.wrapping_add(cost(op));
-    }
-    sum
-}
 
 #[test]
 fn tiles_are_the_tables(rt: HostRuntime) -> Result<(), Fail> {
@@ -67,7 +37,7 @@ fn tiles_are_the_tables(rt: HostRuntime) -> Result<(), Fail> {
             panic!(rt; "no memory");
         };
         let bytes = spelled(rt.alloc(), &ops)?;
-        let by_hand = bytes_of(rt.alloc(), tile)?;
+        let by_hand = hex::decode(rt.alloc(), tile.as_bytes())?;
         assert_eq!(rt; bytes.as_slice(), by_hand.as_slice(), "at {line}");
         assert_eq!(rt; price(&ops), sum.parse::<u32>()?, "at {line}");
     }
@@ -88,9 +58,9 @@ fn lwz_reads_its_base_at_home(rt: HostRuntime) -> Result<(), Fail> {
     let Ok(ops) = emit(rt.alloc(), &instr, &map) else {
         panic!(rt; "no memory");
     };
-    let by_hand = bytes_of(
+    let by_hand = hex::decode(
         rt.alloc(),
-        "8b151000000081c2080000008b82000000000fc889050c000000",
+        b"8b151000000081c2080000008b82000000000fc889050c000000",
     )?;
     assert_eq!(rt; spelled(rt.alloc(), &ops)?.as_slice(), by_hand.as_slice());
     assert_eq!(rt; price(&ops), 11);

@@ -11,3 +11,5 @@ mod guest_words;
 mod host_ops;
 #[cfg(test)]
 mod straight_tiles;
+#[cfg(test)]
+mod tile_bytes;

@@ -1,9 +1,8 @@
 //! Tiles as bytes, by hand from the table of tiles.
 
+use crate::tile_bytes::{price, spelled};
 use base_alu::{emit, is_built};
-use ia_codec::{Op, cost, encode, in_profile};
 use ppc_isa::{Map, decode};
-use std::alloc::Global;
 use std::test::Fail;
 
 // Each line: a word, its tile's bytes with r4 in ebx and r5 in esi, and their price.
@@ -34,36 +33,7 @@ const TILES: &str = "38640005 89d881c00500000089050c000000 5
 7c6102a6 0fb60591000000c1e0010fb60d9200000009c8c1e0010fb60d9000000009c8c1e01d0fb60d9300000009c889050c000000 21
 7ca103a6 89f089c1c1e91f880d9100000089c1c1e91e81e101000000880d9200000089c1c1e91d81e101000000880d9000000081e07f000000880593000000 22
 7ca903a6 89f0890584000000 4
-7c0004ac - 0";
-
-fn bytes_of(alloc: Global, text: &str) -> Result<Vec<u8, Global>, Fail> {
-    let mut bytes = Vec::new(alloc);
-    for i in 0..text.len() / 2 {
-        let pair = text.get(2 * i..2 * i + 2).unwrap_or("");
-        bytes.push(u8::from_str_radix(pair, 16)?)?;
-    }
-    Ok(bytes)
-}
-
-// The ops' bytes; none for an op that has no spelling.
-fn spelled(alloc: Global, ops: &[Op]) -> Result<Vec<u8, Global>, Fail> {
-    let mut bytes = Vec::new(alloc);
-    for op in ops {
-        if in_profile(op) {
-            let spelling = encode(op);
-            bytes.extend_from_slice(&spelling.bytes[..spelling.len as usize])?;
-        }
-    }
-    Ok(bytes)
-}
-
-fn price(ops: &[Op]) -> u32 {
-    let mut sum = 0u32;
-    for op in ops {
-        sum = sum.wrapping_add(cost(op));
-    }
-    sum
-}
+7c0004ac  0";
 
 #[test]
 fn tiles_are_the_tables(rt: HostRuntime) -> Result<(), Fail> {
@@ -83,7 +53,7 @@ fn tiles_are_the_tables(rt: HostRuntime) -> Result<(), Fail> {
             panic!(rt; "no memory");
         };
         let bytes = spelled(rt.alloc(), &ops)?;
-        let by_hand = bytes_of(rt.alloc(), tile)?;
+        let by_hand = hex::decode(rt.alloc(), tile.as_bytes())?;
         assert_eq!(rt; bytes.as_slice(), by_hand.as_slice(), "at {line}");
         assert_eq!(rt; price(&ops), sum.parse::<u32>()?, "at {line}");
     }

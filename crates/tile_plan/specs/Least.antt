@@ -40,7 +40,7 @@ pub record IsBeyond (q : Problem) (moves limit : ℕ) (arc : Arc) (b : ℕ) : Ty
   pub onward : b < NEVER → (after : ℕ) × Leaves moves arc.step after
   pub small : b < NEVER → b + 524288 ≤ limit
 
--- row 7 * d + k is of the place at d before the last, with k moves left in a row
+-- Each place has seven rows: the one at 7 * d + k is that of the place at d before the last, with k moves left in a row.
 pub record IsTable (q : Problem) (table : List (List ℕ)) : Type 0 where
   pub few : length table ≤ 7 * q.places
   pub rows : (r : ℕ) → r < length table → IsRow q (last q - r / 7) (r % 7) (524288 * r) (slice_index_or table r [])

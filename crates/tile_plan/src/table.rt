@@ -111,7 +111,8 @@ fn weights_at(
     Ok(row)
 }
 
-/// The least weights of all places: row 7 * d + k for the place at d before the last, with k moves left.
+/// The least weights of all places. Each has seven rows: the one at 7 * d + k is that of the place at d before the last,
+/// with k moves left.
 pub fn weights(
     alloc: Global,
     problem: &Problem,
