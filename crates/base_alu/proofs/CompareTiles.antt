@@ -14,7 +14,7 @@ use Rattle.ia_codec.specs.Rows.{difference_flags, condition_holds}
 use Rattle.reg_map.specs.Home.{location_range}
 use Rattle.runs.specs.Machine.{Goes}
 use Rattle.machines.specs.Memory.{update, Rights}
-use Rattle.machines.specs.Guest.{Guest, effect_of, acts, onward, put_cr, cr_word}
+use Rattle.machines.specs.Guest.{Guest, effect_of, guest_acts, at_next, put_cr, cr_word}
 use Rattle.machines.specs.Host.{Choice}
 use Rattle.machines.specs.Representation.{AreInRange}
 use Rattle.symbolic_tiles.specs.Tiles.{IsTileOf, room_of}
@@ -46,9 +46,9 @@ field_are_ops f c h = ((tt, omega arith), ((tt, omega arith), ((tt, tt), ((tt, o
 
 module _ (i : Instr) (f : ℕ) (s : Bool) (x y : Guest → ℕ) (lf : f < 8) where
   abbrev pub compares : Guest → Guest
-  compares g = onward (put_cr (with_field (cr_word g.locs) f (is_less (x g) (y g) s) (is_less (y g) (x g) s) (eqb (x g) (y g)) (so (values_in i g))) g.locs) g
+  compares g = at_next (put_cr (with_field (cr_word g.locs) f (is_less (x g) (y g) s) (is_less (y g) (x g) s) (eqb (x g) (y g)) (so (values_in i g))) g.locs) g
 
-  pub compare_does : (ops : List SymbolicOp) → IsLegal i → AreWellFormed ops → room_of (ops ++ field_ops f (less_condition s)) ≤ 631 → ((guest : Rights) (g : Guest) → acts guest i (effect_of i g) g ≡ Goes (compares g)) →
+  pub compare_does : (ops : List SymbolicOp) → IsLegal i → AreWellFormed ops → room_of (ops ++ field_ops f (less_condition s)) ≤ 631 → ((guest : Rights) (g : Guest) → guest_acts guest i (effect_of i g) g ≡ Goes (compares g)) →
       ((guest host : Rights) (g : Guest) (regs : ℕ → ℕ) (flags : Flags) (choices : List Choice) → AreInRange g → (x g < 2 ^ 32) × (y g < 2 ^ 32) × Then (HasFlags (x g) (y g) g) (execute_ops guest host ops choices (state_of g regs flags))) →
       IsTileOf i (ops ++ field_ops f (less_condition s))
   compare_does ops legal are short row run =

@@ -12,7 +12,7 @@ use Rattle.ppc_isa.specs.Recording.{place}
 use Rattle.ppc_isa.specs.FieldRows.{cr_bit, cr_logic}
 use Rattle.reg_map.specs.Home.{location_range}
 use Rattle.machines.specs.Memory.{update, Rights}
-use Rattle.machines.specs.Guest.{Guest, onward, put_cr, cr_word}
+use Rattle.machines.specs.Guest.{Guest, at_next, put_cr, cr_word}
 use Rattle.machines.specs.Host.{Choice}
 use Rattle.machines.specs.Representation.{AreInRange}
 use Rattle.symbolic_tiles.specs.Tiles.{IsTileOf, room_of}
@@ -150,7 +150,7 @@ cr_logic_does op d a b legal =
     lb = legal.fit.1.1.1.0
 
     after : Guest → Guest
-    after g = onward (put_cr (with_bit (cr_word g.locs) (place d) (cr_logic op (cr_bit a (values_in (CrLogic op d a b) g)) (cr_bit b (values_in (CrLogic op d a b) g)))) g.locs) g
+    after g = at_next (put_cr (with_bit (cr_word g.locs) (place d) (cr_logic op (cr_bit a (values_in (CrLogic op d a b) g)) (cr_bit b (values_in (CrLogic op d a b) g)))) g.locs) g
 
     put_at : (g : Guest) → AreInRange g → (s : SymbolicState) (bit : Bool) (z : ℕ) → bit_and (s.regs 0) 1 ≡ one_if bit → s.locs ≡ g.locs →
         update s.locs (34 + d / 4) (bit_or (bit_and (s.regs 0) 1 * 2 ^ ((3 - d % 4) % 32 % 32) % 2 ^ 32) (bit_and (s.locs (34 + d / 4) % 256) (15 - 2 ^ (3 - d % 4))) % 256) z ≡ put_cr (with_bit (cr_word g.locs) (place d) bit) g.locs z

@@ -6,7 +6,7 @@ use Rattle.ppc_isa.specs.declared.instr.Instr.TheVariants.{MoveToCr}
 use Rattle.ppc_isa.specs.Legal.{IsLegal}
 use Rattle.reg_map.specs.Home.{location_range}
 use Rattle.machines.specs.Memory.{update, Rights}
-use Rattle.machines.specs.Guest.{Guest, onward, put_cr, cr_word}
+use Rattle.machines.specs.Guest.{Guest, at_next, put_cr, cr_word}
 use Rattle.machines.specs.Host.{Choice}
 use Rattle.machines.specs.Representation.{AreInRange}
 use Rattle.symbolic_tiles.specs.Tiles.{IsTileOf, room_of}
@@ -100,7 +100,7 @@ mtcrf_does s fxm legal =
     ls = legal.fit.1.0
 
     after : Guest → Guest
-    after g = onward (put_cr (put_fields fxm (g.locs s) (cr_word g.locs)) g.locs) g
+    after g = at_next (put_cr (put_fields fxm (g.locs s) (cr_word g.locs)) g.locs) g
 
     by_end : (g : Guest) (t : SymbolicState) (x : ℕ) → ((y : ℕ) → y < 42 → t.locs y ≡ put_cr (put_fields fxm (g.locs s) (cr_word g.locs)) g.locs y) × ((y : ℕ) → 42 ≤ y → t.locs y ≡ g.locs y) × (t.bytes ≡ g.bytes) → (x < 42) ⊎ (42 ≤ x) → t.locs x ≡ put_cr (put_fields fxm (g.locs s) (cr_word g.locs)) g.locs x
     by_end g t x d (inl l) = d.0 x l

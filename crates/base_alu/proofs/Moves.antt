@@ -9,7 +9,7 @@ use Rattle.ppc_isa.specs.Legal.{IsLegal, IsSpr}
 use Rattle.ppc_isa.specs.Recording.{with_field}
 use Rattle.reg_map.specs.Home.{location_range}
 use Rattle.machines.specs.Memory.{update}
-use Rattle.machines.specs.Guest.{Guest, onward, put_cr, put_xer, cr_word, xer_word}
+use Rattle.machines.specs.Guest.{Guest, at_next, put_cr, put_xer, cr_word, xer_word}
 use Rattle.machines.specs.Representation.{AreInRange}
 use Rattle.symbolic_tiles.specs.Tiles.{IsTileOf}
 use Rattle.base_alu.specs.Conditions.{mcrf_ops, mfcr_ops}
@@ -24,13 +24,13 @@ use Rattle.symbolic_tiles.proofs.Registers.{word, gpr}
 
 pub sync_does : IsTileOf Sync []
 sync_does = ops_are_tile Sync [] (record { fit = (omega arith, (omega arith, (omega arith, (omega arith, (omega arith, (omega arith, tt)))))); allowed = tt }) tt (omega arith)
-    (λ guest g g' range leads. let e = goes_same (onward g.locs g) g' leads in subst (λ h. (z : ℕ) → 34 ≤ z → z < 46 → h.locs z < location_range z) e (λ z lz uz. range z uz))
-    (λ guest host g g' regs flags choices given words leads. let e = goes_same (onward g.locs g) g' leads in (λ x lx. ap (λ k. k.locs x) e, λ a held. ap (λ k. k.bytes a) e))
+    (λ guest g g' range leads. let e = goes_same (at_next g.locs g) g' leads in subst (λ h. (z : ℕ) → 34 ≤ z → z < 46 → h.locs z < location_range z) e (λ z lz uz. range z uz))
+    (λ guest host g g' regs flags choices given words leads. let e = goes_same (at_next g.locs g) g' leads in (λ x lx. ap (λ k. k.locs x) e, λ a held. ap (λ k. k.bytes a) e))
 
 pub isync_does : IsTileOf Isync []
 isync_does = ops_are_tile Isync [] (record { fit = (omega arith, (omega arith, (omega arith, (omega arith, (omega arith, (omega arith, tt)))))); allowed = tt }) tt (omega arith)
-    (λ guest g g' range leads. let e = goes_same (onward g.locs g) g' leads in subst (λ h. (z : ℕ) → 34 ≤ z → z < 46 → h.locs z < location_range z) e (λ z lz uz. range z uz))
-    (λ guest host g g' regs flags choices given words leads. let e = goes_same (onward g.locs g) g' leads in (λ x lx. ap (λ k. k.locs x) e, λ a held. ap (λ k. k.bytes a) e))
+    (λ guest g g' range leads. let e = goes_same (at_next g.locs g) g' leads in subst (λ h. (z : ℕ) → 34 ≤ z → z < 46 → h.locs z < location_range z) e (λ z lz uz. range z uz))
+    (λ guest host g g' regs flags choices given words leads. let e = goes_same (at_next g.locs g) g' leads in (λ x lx. ap (λ k. k.locs x) e, λ a held. ap (λ k. k.bytes a) e))
 
 -- a field's value and its bits
 field_small : (g : Guest) → AreInRange g → (f : ℕ) → f < 8 → g.locs (34 + f) < 16
@@ -72,7 +72,7 @@ mcrf_does to from legal =
     lf = legal.fit.1.1.1.0
 
     after : Guest → Guest
-    after g = onward (put_cr (with_field (cr_word g.locs) to (bit_of (cr_word g.locs) (31 - 4 * from)) (bit_of (cr_word g.locs) (31 - (4 * from + 1))) (bit_of (cr_word g.locs) (31 - (4 * from + 2))) (bit_of (cr_word g.locs) (31 - (4 * from + 3)))) g.locs) g
+    after g = at_next (put_cr (with_field (cr_word g.locs) to (bit_of (cr_word g.locs) (31 - 4 * from)) (bit_of (cr_word g.locs) (31 - (4 * from + 1))) (bit_of (cr_word g.locs) (31 - (4 * from + 2))) (bit_of (cr_word g.locs) (31 - (4 * from + 3)))) g.locs) g
 
 -- one field behind those that are there
 next_is : (v f : ℕ) → v < 2 ^ 28 → f < 16 → bit_or (v * 2 ^ (4 % 32 % 32) % 2 ^ 32) (f % 256) ≡ v * 16 + f
@@ -175,10 +175,10 @@ pub mtspr_does : (s spr : ℕ) → IsLegal (MoveToSpr s spr) → IsTileOf (MoveT
 mtspr_does s spr legal = by_spr spr legal.allowed legal
   where
     to_word : (k : ℕ) → k < 34 → (g : Guest) → Guest
-    to_word k h g = onward (update g.locs k (g.locs s)) g
+    to_word k h g = at_next (update g.locs k (g.locs s)) g
 
     to_xer : Guest → Guest
-    to_xer g = onward (put_xer (word_and (g.locs s) 0xE000007F) g.locs) g
+    to_xer g = at_next (put_xer (word_and (g.locs s) 0xE000007F) g.locs) g
 
     by_spr : (spr : ℕ) → IsSpr spr → IsLegal (MoveToSpr s spr) → IsTileOf (MoveToSpr s spr) (mtspr_ops s spr)
     by_spr spr (inl e) = let P : ℕ → Type 0 = λ n. IsLegal (MoveToSpr s n) → IsTileOf (MoveToSpr s n) (mtspr_ops s n) in subst P (sym e) (λ legal.

@@ -10,7 +10,7 @@ use Rattle.ia_codec.specs.Effect.{Flags}
 use Rattle.ia_codec.specs.Rows.{difference_word}
 use Rattle.base_flow.specs.SystemCall.{done_items, error_items, failure_items, success_items, answer_items, request_items, selection_items}
 use Rattle.machines.specs.Memory.{update, block, put_block, each_byte, Rights}
-use Rattle.machines.specs.Guest.{Guest, behind, after_given, asks, system_call, without_so, with_so}
+use Rattle.machines.specs.Guest.{Guest, behind, after_guest_call, guest_asks, guest_system_call, without_so, with_so}
 use Rattle.machines.specs.Host.{Choice}
 use Rattle.machines.specs.Representation.{AreInRange}
 use Rattle.symbolic_tiles.specs.Row.{WritesHeld}
@@ -44,35 +44,35 @@ abbrev IsTold : Given → Type 0
 IsTold (Gives result to_buffer) = result < 0xFFFFF001
 IsTold (Fails error) = (1 ≤ error) × (error ≤ 4095)
 
-given_in_range : (x : Given) (g : Guest) → IsTold x → AreInRange g → AreInRange (after_given x g)
+given_in_range : (x : Given) (g : Guest) → IsTold x → AreInRange g → AreInRange (after_guest_call x g)
 given_in_range (Gives result bs) g told range = let f = range 34 (omega arith) in update_in_range (update g.locs 3 result) 34 (without_so (g.locs 34)) (omega (arith, f)) (update_in_range g.locs 3 result (omega arith) range)
 given_in_range (Fails error) g told range = let f = range 34 (omega arith) in update_in_range (update g.locs 3 error) 34 (with_so (g.locs 34)) (omega (arith, f)) (update_in_range g.locs 3 error (omega arith) range)
 
 module _ (guest host : Rights) where
   -- an error's number in ecx
-  error_here : (g : Guest) (regs : ℕ → ℕ) (flags : Flags) (choices : List Choice) → AreInRange g → AreInRange (after_given (Fails (regs 1)) g) → IsOut guest (after_given (Fails (regs 1)) g) (execute guest host (error_items (behind g.next)) None choices (state_of g regs flags))
+  error_here : (g : Guest) (regs : ℕ → ℕ) (flags : Flags) (choices : List Choice) → AreInRange g → AreInRange (after_guest_call (Fails (regs 1)) g) → IsOut guest (after_guest_call (Fails (regs 1)) g) (execute guest host (error_items (behind g.next)) None choices (state_of g regs flags))
   unfolding error_items done_items
   error_here g regs flags choices range after = (refl, (λ x lx. ap (λ w. update (update g.locs 3 (regs 1)) 34 w x) (so_set (g.locs 34) (range 34 (omega arith))), λ a held. refl), after)
 
-  error_from_mark : (g : Guest) (regs : ℕ → ℕ) (flags : Flags) (choices : List Choice) → AreInRange g → AreInRange (after_given (Fails (regs 1)) g) → IsOut guest (after_given (Fails (regs 1)) g) (execute guest host (error_items (behind g.next)) (Some 3) choices (state_of g regs flags))
+  error_from_mark : (g : Guest) (regs : ℕ → ℕ) (flags : Flags) (choices : List Choice) → AreInRange g → AreInRange (after_guest_call (Fails (regs 1)) g) → IsOut guest (after_guest_call (Fails (regs 1)) g) (execute guest host (error_items (behind g.next)) (Some 3) choices (state_of g regs flags))
   unfolding error_items done_items
   error_from_mark g regs flags choices range after = (refl, (λ x lx. ap (λ w. update (update g.locs 3 (regs 1)) 34 w x) (so_set (g.locs 34) (range 34 (omega arith))), λ a held. refl), after)
 
   -- an error's number, negated, in eax
-  failure_from_mark : (g : Guest) (regs : ℕ → ℕ) (flags : Flags) (choices : List Choice) (error : ℕ) → regs 0 ≡ 2 ^ 32 - error → (1 ≤ error) × (error ≤ 4095) → AreInRange g → IsOut guest (after_given (Fails error) g) (execute guest host (failure_items (behind g.next)) (Some 2) choices (state_of g regs flags))
+  failure_from_mark : (g : Guest) (regs : ℕ → ℕ) (flags : Flags) (choices : List Choice) (error : ℕ) → regs 0 ≡ 2 ^ 32 - error → (1 ≤ error) × (error ≤ 4095) → AreInRange g → IsOut guest (after_guest_call (Fails error) g) (execute guest host (failure_items (behind g.next)) (Some 2) choices (state_of g regs flags))
   unfolding failure_items
   failure_from_mark g regs flags choices error e told range =
       let same : difference_word 0 (regs 0) false ≡ error = omega (arith, e, told) in
       let after = given_in_range (Fails error) g told range in
-      subst (λ k. IsOut guest (after_given (Fails k) g) (execute guest host (failure_items (behind g.next)) (Some 2) choices (state_of g regs flags))) same
-      (error_here g _ _ _ range (subst (λ k. AreInRange (after_given (Fails k) g)) (sym same) after))
+      subst (λ k. IsOut guest (after_guest_call (Fails k) g) (execute guest host (failure_items (behind g.next)) (Some 2) choices (state_of g regs flags))) same
+      (error_here g _ _ _ range (subst (λ k. AreInRange (after_guest_call (Fails k) g)) (sym same) after))
 
   failure_to_done : (next : ℕ) (s : SymbolicState) (choices : List Choice) → execute guest host (failure_items next) (Some 4) choices s ≡ Out next s
   unfolding failure_items error_items done_items
   failure_to_done next s choices = refl
 
   -- a result in eax
-  success_here : (g : Guest) (regs : ℕ → ℕ) (flags : Flags) (bytes : ℕ → ℕ) (choices : List Choice) (bs : List ℕ) → bytes ≡ put_block (g.locs 4) bs g.bytes → regs 0 < 0xFFFFF001 → AreInRange g → IsOut guest (after_given (Gives (regs 0) bs) g) (execute guest host (success_items (behind g.next)) None choices (record { regs = regs; locs = g.locs; flags = flags; bytes = bytes }))
+  success_here : (g : Guest) (regs : ℕ → ℕ) (flags : Flags) (bytes : ℕ → ℕ) (choices : List Choice) (bs : List ℕ) → bytes ≡ put_block (g.locs 4) bs g.bytes → regs 0 < 0xFFFFF001 → AreInRange g → IsOut guest (after_guest_call (Gives (regs 0) bs) g) (execute guest host (success_items (behind g.next)) None choices (record { regs = regs; locs = g.locs; flags = flags; bytes = bytes }))
   unfolding success_items
   success_here g regs flags bytes choices bs e told range =
       rw failure_to_done (refl, (λ x lx. ap (λ w. update (update g.locs 3 (regs 0)) 34 w x) (so_cleared (g.locs 34) (range 34 (omega arith))), λ a held. ap (λ f. f a) e), given_in_range (Gives (regs 0) bs) g told range)
@@ -82,7 +82,7 @@ module _ (guest host : Rights) where
   success_to_failure next s choices = refl
 
   -- the answer is told apart by its number
-  answered : (x : Given) (g : Guest) (regs : ℕ → ℕ) (flags : Flags) (choices : List Choice) → regs 1 ≡ g.locs 4 → IsTold x → AreInRange g → IsOut guest (after_given x g) (execute guest host (answer_items (behind g.next)) None choices (with_given x (state_of g regs flags)))
+  answered : (x : Given) (g : Guest) (regs : ℕ → ℕ) (flags : Flags) (choices : List Choice) → regs 1 ≡ g.locs 4 → IsTold x → AreInRange g → IsOut guest (after_guest_call x g) (execute guest host (answer_items (behind g.next)) None choices (with_given x (state_of g regs flags)))
   unfolding answer_items
   answered (Gives result bs) g regs flags choices e told range =
       let t : ltb result 0xFFFFF001 ≡ true = grind (arith, nat_tests) in
@@ -107,7 +107,7 @@ module _ (guest host : Rights) where
 
   -- the calls
   abbrev Asked : Guest → (ℕ → ℕ) → Flags → List Choice → ListedCall → Type 0
-  Asked g regs flags choices call = FitsExit guest (asks call g) (execute guest host (request_items (behind g.next)) (Some 1) choices (state_of g regs flags))
+  Asked g regs flags choices call = FitsExit guest (guest_asks call g) (execute guest host (request_items (behind g.next)) (Some 1) choices (state_of g regs flags))
 
   request_read : (g : Guest) (regs : ℕ → ℕ) (flags : Flags) (choices : List Choice) → eqb (regs 0) 3 ≡ true → each_byte guest.writable (g.locs 5) (g.locs 4) ≡ true → ((a : AnswerValue) → IsTold (given (Read (g.locs 3) (g.locs 5)) a)) → AreInRange g → Asked g regs flags choices (Read (g.locs 3) (g.locs 5))
   unfolding request_items
@@ -134,7 +134,7 @@ module _ (guest host : Rights) where
       rw (n1, n252, n3, n4, e) (refl, λ a. answered (given (Close (g.locs 3)) a) g _ flags _ refl (told a) range)
 
   Right : Guest → (ℕ → ℕ) → Flags → List Choice → Type 0
-  Right g regs flags choices = FitsExit guest (system_call guest g) (execute guest host (selection_items (behind g.next)) None choices (state_of g regs flags))
+  Right g regs flags choices = FitsExit guest (guest_system_call guest g) (execute guest host (selection_items (behind g.next)) None choices (state_of g regs flags))
 
   -- what cmp tells of the number
   told_by : (g : Guest) (k : ℕ) (b : Bool) → AreInRange g → k < 2 ^ 32 → eqb (g.locs 0) k ≡ b → eqb (difference_word (g.locs 0) k false) 0 ≡ b
@@ -236,7 +236,7 @@ module _ (guest host : Rights) where
   each_wider : WritesHeld guest → (n a : ℕ) → each_byte guest.writable n a ≡ true → each_byte guest.held n a ≡ true
   each_wider writes n a h = each_of guest.held n a (λ i li. writes ((a + i) % 2 ^ 32) (bytes_held guest.writable n a h i li))
 
-  pub sc_fits : WritesHeld guest → AreShort guest → (g : Guest) (regs : ℕ → ℕ) (flags : Flags) (choices : List Choice) → AreInRange g → FitsExit guest (system_call guest g) (execute guest host (selection_items (behind g.next)) None choices (state_of g regs flags))
+  pub sc_fits : WritesHeld guest → AreShort guest → (g : Guest) (regs : ℕ → ℕ) (flags : Flags) (choices : List Choice) → AreInRange g → FitsExit guest (guest_system_call guest g) (execute guest host (selection_items (behind g.next)) None choices (state_of g regs flags))
   unfolding Right
   sc_fits writes short g regs flags choices range = by_234 (eqb (g.locs 0) 234) refl
     where

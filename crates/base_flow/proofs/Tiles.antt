@@ -10,7 +10,7 @@ use Rattle.ppc_isa.specs.BranchRows.{bo_bit}
 use Rattle.ia_codec.specs.declared.op.Condition.{Condition}
 use Rattle.ia_codec.specs.declared.op.Condition.TheVariants.{Below, NotBelow, Equal, Above, Less, Greater}
 use Rattle.symbolic_tiles.specs.declared.flow_op.FlowOp.{FlowOp}
-use Rattle.machines.specs.Guest.{executes, behind, branch_target}
+use Rattle.machines.specs.Guest.{guest_executes, behind, branch_target}
 use Rattle.symbolic_tiles.specs.Flow.{Fits, flow as flow_go, FlowDoesWordAt}
 use Rattle.symbolic_tiles.specs.declared.symbolic_op.SymbolicOp.{SymbolicOp}
 use Rattle.symbolic_tiles.specs.declared.tile_item.TileItem.{TileItem}
@@ -141,7 +141,7 @@ flow_tiles_are_marked _ m at = (tt, omega arith)
 -- the tile of a word at an address
 pub tile_does : (i : Instr) (m : Map) (at : ℕ) → IsLegal i → IsMap m → HasTile i m → (items : List FlowOp) → items ≡ flows_of (items_of i at) m → FlowDoesWordAt (Some i) m at items
 tile_does i m at legal is flow items e area guest host g core choices here before =
-    subst (λ l. Fits m area guest core (executes guest (Some i) g) (flow_go host area l None choices core)) (ap (λ n. flows_of (items_of i n) m) here ∙ sym e)
+    subst (λ l. Fits m area guest core (guest_executes guest (Some i) g) (flow_go host area l None choices core)) (ap (λ n. flows_of (items_of i n) m) here ∙ sym e)
     (flow_tiles_do_rows i m legal is flow area guest host g core choices before)
 
 pub tile_marked : (i : Instr) (m : Map) (at : ℕ) (items : List FlowOp) → items ≡ flows_of (items_of i at) m → AreMarked items × (length items ≤ 128)

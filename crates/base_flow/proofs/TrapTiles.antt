@@ -14,7 +14,7 @@ use Rattle.ia_codec.specs.Effect.{Flags}
 use Rattle.ia_codec.specs.Rows.{condition_holds, difference_flags}
 use Rattle.runs.specs.Machine.{Goes, Ends}
 use Rattle.machines.specs.Memory.{Rights}
-use Rattle.machines.specs.Guest.{Guest, behind, onward}
+use Rattle.machines.specs.Guest.{Guest, behind, at_next}
 use Rattle.machines.specs.Host.{Choice}
 use Rattle.machines.specs.Representation.{AreInRange}
 use Rattle.symbolic_tiles.specs.declared.symbolic_op.SymbolicOp.{SymbolicOp}
@@ -45,7 +45,7 @@ above_by_flags x y hx hy = grind (arith, nat_tests)
 module _ (guest host : Rights) (g : Guest) (x y : ℕ) (lx : x < 2 ^ 32) (ly : y < 2 ^ 32) (range : AreInRange g) where
   -- the symbolic_exit out of the tests
   abbrev Right : Bool → SymbolicExit → Type 0
-  Right taken symbolic_exit = FitsExit guest (cond taken (Ends endings.Trap) (Goes (onward g.locs g))) symbolic_exit
+  Right taken symbolic_exit = FitsExit guest (cond taken (Ends endings.Trap) (Goes (at_next g.locs g))) symbolic_exit
 
   -- from the mark on, through the tests that are left
   abbrev Traps : List TileItem → Type 0

@@ -1,4 +1,4 @@
--- Tiles of loads and stores.
+-- Tiles of load_outcome and stores.
 use Rattle.symbolic_tiles.proofs.Lengths.{room_append}
 use Rattle.std.proofs.Common.{◌≡◌, ℕ, zero, suc, ◌+◌, ◌/◌, ◌%◌, ◌^◌, ◌<◌, ◌≤◌, Bool, true, false, cond, List, ◌++◌, Contains, Option, Some, None, refl, sym, ap, ◌∙◌, subst, arith}
 use Rattle.word_kit.specs.Words.{sign_extended}
@@ -10,7 +10,7 @@ use Rattle.ia_codec.specs.Rows.{swapped}
 use Rattle.reg_map.specs.Home.{location_range}
 use Rattle.runs.specs.Machine.{Goes, Ends}
 use Rattle.machines.specs.Memory.{update, load, store, load_big, store_big, each_byte, Rights}
-use Rattle.machines.specs.Guest.{Guest, effect_of, acts, onward, loads}
+use Rattle.machines.specs.Guest.{Guest, effect_of, guest_acts, at_next, load_outcome}
 use Rattle.machines.specs.Host.{Choice}
 use Rattle.machines.specs.Representation.{AreInRange}
 use Rattle.symbolic_tiles.specs.Row.{span, WritesHeld}
@@ -136,17 +136,17 @@ updated_fields false a A l la h = h
 
 module _ (i : Instr) (u : Bool) (d a n : ℕ) (A : Guest → ℕ) (value : ℕ → (ℕ → ℕ) → ℕ) (ld : d < 32) (la : a < 32) where
   abbrev pub loaded_guest : Guest → Guest
-  loaded_guest g = onward (updated u a (A g) (update g.locs d (value (A g) g.bytes))) g
+  loaded_guest g = at_next (updated u a (A g) (update g.locs d (value (A g) g.bytes))) g
 
   abbrev pub IsLoad : Type 0
-  IsLoad = (guest : Rights) (g : Guest) → acts guest i (effect_of i g) g ≡ cond (each_byte guest.held n (A g)) (Goes (loaded_guest g)) (Ends Outside)
+  IsLoad = (guest : Rights) (g : Guest) → guest_acts guest i (effect_of i g) g ≡ cond (each_byte guest.held n (A g)) (Goes (loaded_guest g)) (Ends Outside)
 
   pub load_does : (address ops : List SymbolicOp) → IsLegal i → AreWellFormed address → AreWellFormed ops → room_of address ≤ 12 → room_of ops ≤ 25 → IsLoad →
       ((guest host : Rights) (g : Guest) → Given i guest host g → (k : ℕ) → Contains (span n (A g)) k → host.held k ≡ true) →
       ((guest host : Rights) (g : Guest) → AreInRange g → (regs : ℕ → ℕ) (flags : Flags) (choices : List Choice) → (A g < 2 ^ 32) × Then (HasAddress (A g) g) (execute_ops guest host address choices (state_of g regs flags))) →
       ((guest host : Rights) → Loads guest host n ops value) →
       IsTileOf i (address ++ (ops ++ put_ops u d a))
-  load_does address ops legal are are' short short' row held addressed loads =
+  load_does address ops legal are are' short short' row held addressed load_outcome =
       ops_are_tile i (address ++ (ops ++ put_ops u d a)) legal (both_ops address (ops ++ put_ops u d a) are (both_ops ops (put_ops u d a) are' (put_are_ops u d a ld la))) (whole_short address ops (put_ops u d a) short short' (put_short u d a))
       (λ guest g g' range leads.
       let e = (goes_inside (each_byte guest.held n (A g)) (loaded_guest g) g' (sym (row guest g) ∙ leads)).1 in
@@ -157,7 +157,7 @@ module _ (i : Instr) (u : Bool) (d a n : ℕ) (A : Guest → ℕ) (value : ℕ �
       let can : can_load guest host n (A g) ≡ true = let p = e.0 in let q = each_in_span host.held n (A g) (held guest host g given) in simp (p, q) in
       let inside : Inside guest host n (A g) g = record { low = r.0; can = can; bytes = λ k lk. given.bytes ((A g + k) % 2 ^ 32) (bytes_held guest.held n (A g) e.0 k lk) } in
       ops_then guest host (HasAddress (A g) g) (IsStateOf guest g') address (ops ++ put_ops u d a) choices (state_of g regs flags) r.1
-      (λ choices s h. ops_then guest host (HasNumber (value (A g) g.bytes) (A g) g) (IsStateOf guest g') ops (put_ops u d a) choices s (loads guest host (A g) g choices s inside h)
+      (λ choices s h. ops_then guest host (HasNumber (value (A g) g.bytes) (A g) g) (IsStateOf guest g') ops (put_ops u d a) choices s (load_outcome guest host (A g) g choices s inside h)
       (λ choices s h. ops_last guest host g g' choices s (put_ops_do guest host u d a (value (A g) g.bytes) (A g) g choices s h) e.1)))
     where
       ops_last : (guest host : Rights) (g g' : Guest) (choices : List Choice) (s : SymbolicState) → Then (λ t. (t.locs ≡ updated u a (A g) (update g.locs d (value (A g) g.bytes))) × (t.bytes ≡ g.bytes)) (execute_ops guest host (put_ops u d a) choices s) → loaded_guest g ≡ g' → Then (IsStateOf guest g') (execute_ops guest host (put_ops u d a) choices s)
@@ -225,10 +225,10 @@ all_held guest w (suc n) a h =
 
 module _ (i : Instr) (u : Bool) (a n : ℕ) (A : Guest → ℕ) (bytes : ℕ → Guest → ℕ → ℕ) (la : a < 32) where
   abbrev pub stored_guest : Guest → Guest
-  stored_guest g = record (onward (updated u a (A g) g.locs) g) { bytes = bytes (A g) g }
+  stored_guest g = record (at_next (updated u a (A g) g.locs) g) { bytes = bytes (A g) g }
 
   abbrev pub IsStore : Type 0
-  IsStore = (guest : Rights) (g : Guest) → acts guest i (effect_of i g) g ≡ cond (each_byte guest.writable n (A g)) (Goes (stored_guest g)) (Ends Outside)
+  IsStore = (guest : Rights) (g : Guest) → guest_acts guest i (effect_of i g) g ≡ cond (each_byte guest.writable n (A g)) (Goes (stored_guest g)) (Ends Outside)
 
   pub store_does : (address ops : List SymbolicOp) → IsLegal i → AreWellFormed address → AreWellFormed ops → room_of address ≤ 12 → room_of ops ≤ 25 → IsStore →
       ((guest host : Rights) (g : Guest) → Given i guest host g → (k : ℕ) → Contains (span n (A g)) k → host.writable k ≡ true) →

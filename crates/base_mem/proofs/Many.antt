@@ -9,7 +9,7 @@ use Rattle.ppc_isa.specs.Legal.{IsLegal}
 use Rattle.ia_codec.specs.Rows.{swapped}
 use Rattle.reg_map.specs.Home.{location_range}
 use Rattle.machines.specs.Memory.{update, load, store, load_big, store_big, each_byte, Rights}
-use Rattle.machines.specs.Guest.{Guest, onward, put_loaded, store_registers}
+use Rattle.machines.specs.Guest.{Guest, at_next, put_loaded, store_registers}
 use Rattle.machines.specs.Host.{Choice}
 use Rattle.machines.specs.Representation.{AreInRange}
 use Rattle.symbolic_tiles.specs.SymbolicOps.{AreWellFormed}
@@ -124,7 +124,7 @@ lmw_does d a imm legal =
     address g = (cond (eqb a 0) 0 (g.locs a) + sign_extended 16 imm) % 2 ^ 32
 
     after : Guest → Guest
-    after g = onward (put_loaded d (address g) g.bytes g.locs) g
+    after g = at_next (put_loaded d (address g) g.bytes g.locs) g
 
     past : (A : ℕ) (g : Guest) (x : ℕ) → 32 ≤ x → put_loaded d A g.bytes g.locs x ≡ g.locs x
     past A g x h = by_tests (leb d x) (let e : ltb x 32 ≡ false = grind (arith, nat_tests) in e)
@@ -207,4 +207,4 @@ stmw_does s a imm legal =
     address g = (cond (eqb a 0) 0 (g.locs a) + sign_extended 16 imm) % 2 ^ 32
 
     after : Guest → Guest
-    after g = record (onward g.locs g) { bytes = store_registers (32 - s) s (address g) g.locs g.bytes }
+    after g = record (at_next g.locs g) { bytes = store_registers (32 - s) s (address g) g.locs g.bytes }

@@ -8,7 +8,7 @@ use Rattle.space.specs.declared.call.Event.{Event}
 use Rattle.space.specs.declared.call.Event.TheVariants.{Went, Asked, Ended}
 use Rattle.space.specs.declared.program.Program.{Program}
 use Rattle.machines.specs.Memory.{rights_of}
-use Rattle.machines.specs.Host.{Host, system_call}
+use Rattle.machines.specs.Host.{Host, host_system_call}
 use Rattle.ia_step.specs.declared.parts.Parts.{Parts}
 use Rattle.ia_step.specs.declared.state.State.{State}
 use Rattle.ia_step.specs.Shown.{IsCore, IsState, with_reg}
@@ -44,7 +44,7 @@ is_other a b h = grind (arith, nat_tests)
 pub unknown_call : (p : Program) (s new : State) (h : Host) (parts : Parts) (next n v : ℕ) (e : Event) → IsState p s h → n ≡ slice_index s.parts.regs 0
     → (n ≡ 1 → ⊥) → (n ≡ 252 → ⊥) → (n ≡ 3 → ⊥) → (n ≡ 4 → ⊥) → (n ≡ 6 → ⊥)
     → IsCore p parts (with_reg h.core 0 v) → v ≡ 2 ^ 32 - 38 → e ≡ Went → new ≡ record { parts = parts; eip = next; choices = drop 1 s.choices }
-    → Leads p e new (system_call (rights_of p) next h)
+    → Leads p e new (host_system_call (rights_of p) next h)
 unknown_call p s new h parts next n v e st reg no_exit no_group no_read no_write no_close core value event state =
     let number : h.core.regs 0 ≡ n = st.core.registers 0 ∙ sym reg in
     rw (event, state, number, is_other n 1 no_exit, is_other n 252 no_group, is_other n 3 no_read, is_other n 4 no_write, is_other n 6 no_close)

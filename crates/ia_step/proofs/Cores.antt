@@ -7,7 +7,7 @@ use Rattle.ia_codec.specs.Effect.{Flags as HostFlags, HostEffect as Outcome}
 use Rattle.ia_alu.specs.declared.given.HostEffect.{HostEffect}
 use Rattle.ia_alu.specs.Values.{outcome_of}
 use Rattle.machines.specs.Memory.{rights_of, each_byte}
-use Rattle.machines.specs.Host.{Core, Place, Register, Memory, put_at, puts, leaves, puts_both, values_of, chosen_flags, chosen_word}
+use Rattle.machines.specs.Host.{Core, Place, Register, Memory, put_at, puts, leaves, puts_both, host_values, chosen_flags, chosen_word}
 use Rattle.ia_step.specs.declared.choices.Choice.{Choice}
 use Rattle.ia_step.specs.declared.parts.Flags.{Flags}
 use Rattle.ia_step.specs.declared.parts.Parts.{Parts}
@@ -67,7 +67,7 @@ flags_left p place old s made f e h g told =
 -- what an op reads
 pub values_shown : (p : Program) (s : Parts) (core : Core) (choice : Choice) (free : Flags) (x y high word : ℕ) → IsCore p s core → high ≡ slice_index s.regs 2
     → word ≡ chosen_word (choice_of choice) → flags_of free ≡ chosen_flags (choice_of choice)
-    → record { x = x; y = y; high = high; flags = flags_of s.flags; free = word; free_flags = flags_of free } ≡ values_of (choice_of choice) core x y
+    → record { x = x; y = y; high = high; flags = flags_of s.flags; free = word; free_flags = flags_of free } ≡ host_values (choice_of choice) core x y
 values_shown p s core choice free x y high word h e w told =
     let high_is : high ≡ core.regs 2 = e ∙ sym (h.registers 2) in
     let flags_are : flags_of s.flags ≡ core.flags = sym h.same_flags in

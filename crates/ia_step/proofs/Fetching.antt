@@ -11,7 +11,7 @@ use Rattle.runs.specs.Machine.{Ends}
 use Rattle.ia_codec.specs.declared.op.Op.{Op}
 use Rattle.ia_codec.specs.Spelling.{IsSpelt}
 use Rattle.machines.specs.Memory.{rights_of, code_in, code_of, is_code}
-use Rattle.machines.specs.Host.{Host, op_bytes, executes, acts, host_machine}
+use Rattle.machines.specs.Host.{Host, op_bytes, host_executes, host_acts, host_machine}
 use Rattle.machines.specs.Readings.{Fetched, ReadsOps}
 
 in_code : (s : Segment) (a : ℕ) (b : List ℕ) (x : Bool) → has_address a s ≡ x → cond x (Some (drop (a - s.at) s.bytes)) None ≡ Some b
@@ -52,18 +52,18 @@ module _ (ops : List ℕ → Option Fetched) (reads : ReadsOps ops) (p : Program
   bytes_are : op_bytes (code_of p) a ≡ take n b
   bytes_are = ap (take 12) code_at.1 ∙ sym (ap (λ k. take k b) count ∙ least 12 b)
 
-  step_is : (o : Option Fetched) → ops (take n b) ≡ o → host_machine ops p h ≡ executes (rights_of p) o h
+  step_is : (o : Option Fetched) → ops (take n b) ≡ o → host_machine ops p h ≡ host_executes (rights_of p) o h
   step_is o e =
-      ap (λ x. cond (is_code (code_of p) x) (executes (rights_of p) (ops (op_bytes (code_of p) x)) h) (Ends Outside)) at
-      ∙ ap (λ x. cond x (executes (rights_of p) (ops (op_bytes (code_of p) a)) h) (Ends Outside)) code_at.0
-      ∙ ap (λ l. executes (rights_of p) (ops l) h) bytes_are
-      ∙ ap (λ o. executes (rights_of p) o h) e
+      ap (λ x. cond (is_code (code_of p) x) (host_executes (rights_of p) (ops (op_bytes (code_of p) x)) h) (Ends Outside)) at
+      ∙ ap (λ x. cond x (host_executes (rights_of p) (ops (op_bytes (code_of p) a)) h) (Ends Outside)) code_at.0
+      ∙ ap (λ l. host_executes (rights_of p) (ops l) h) bytes_are
+      ∙ ap (λ o. host_executes (rights_of p) o h) e
 
   -- an op that the bytes spell is executed
-  pub fetched : (op : Op) (k : ℕ) → IsSpelt op (take n b) k → host_machine ops p h ≡ acts (rights_of p) op ((a + k) % 2 ^ 32) h
+  pub fetched : (op : Op) (k : ℕ) → IsSpelt op (take n b) k → host_machine ops p h ≡ host_acts (rights_of p) op ((a + k) % 2 ^ 32) h
   fetched op k spelt =
       step_is (Some (record { op = op; len = k })) (reads.only (take n b) (record { op = op; len = k }) spelt)
-      ∙ ap (λ x. acts (rights_of p) op ((x + k) % 2 ^ 32) h) at
+      ∙ ap (λ x. host_acts (rights_of p) op ((x + k) % 2 ^ 32) h) at
 
   -- bytes that spell none end the run
   pub illegal : ((op : Op) (k : ℕ) → IsSpelt op (take n b) k → ⊥) → host_machine ops p h ≡ Ends Illegal

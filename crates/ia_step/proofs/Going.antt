@@ -11,7 +11,7 @@ use Rattle.ia_codec.specs.declared.op.UnaryOp.TheVariants.{Not, Neg, Mul, Imul1,
 use Rattle.ia_codec.specs.declared.op.Op.{Op}
 use Rattle.ia_codec.specs.declared.op.Op.TheVariants.{Unary, Jcc, Jmp, JmpTo, Int80, Int3, Ud2}
 use Rattle.machines.specs.Memory.{Rights, rights_of}
-use Rattle.machines.specs.Host.{Core, Host, Choice, place_of, reads, sets, unary_does, goes_to, plain, unary_acts, acts}
+use Rattle.machines.specs.Host.{Core, Host, Choice, place_of, reads, sets, unary_does, goes_to, plain, unary_acts, host_acts}
 use Rattle.ia_step.specs.declared.parts.Parts.{Parts}
 use Rattle.ia_step.specs.declared.state.State.{State}
 use Rattle.ia_step.specs.Shown.{Led}
@@ -69,7 +69,7 @@ pub record IsOther (op : Op) : Type 0 where
   pub no_trap : op ≡ Int3 → ⊥
   pub no_illegal : op ≡ Ud2 → ⊥
 
-pub other_acts : (rights : Rights) (op : Op) (next : ℕ) (h : Host) → IsOther op → acts rights op next h ≡ plain rights op next h
+pub other_acts : (rights : Rights) (op : Op) (next : ℕ) (h : Host) → IsOther op → host_acts rights op next h ≡ plain rights op next h
 other_acts rights (Unary x on) next h o = absurd (o.no_unary x on refl)
 other_acts rights (Jcc c rel) next h o = absurd (o.no_jcc c rel refl)
 other_acts rights (Jmp rel) next h o = absurd (o.no_jmp rel refl)

@@ -5,7 +5,7 @@ use Rattle.space.specs.declared.program.Program.{Program}
 use Rattle.space.specs.Memory.{Memory}
 use Rattle.space.specs.Reports.{ListedCall, AnswerValue, Given, Gives, Fails, given}
 use Rattle.machines.specs.Memory.{rights_of, update, put_block}
-use Rattle.machines.specs.Host.{Core, Host, after_given}
+use Rattle.machines.specs.Host.{Core, Host, after_host_call}
 use Rattle.ia_step.specs.declared.parts.Parts.{Parts}
 use Rattle.ia_step.specs.declared.state.State.{State}
 use Rattle.ia_step.specs.Shown.{IsCore, IsState, with_reg}
@@ -14,12 +14,12 @@ use Rattle.ia_step.specs.Calls.{IsAsking}
 use Rattle.ia_step.proofs.Memories.{memory_put}
 
 pub resumed : (p : Program) (s : State) (c : Call) (call : ListedCall) (next : AnswerValue → Host) (k : IsAsking p s c call next) (a : AnswerValue) (g : Given) (parts : Parts)
-    → given (listed_call c k.h.core.bytes) a ≡ g → IsCore p parts (after_given (rights_of p) s.eip g k.h).core → IsState p (record s { parts = parts }) (next a)
+    → given (listed_call c k.h.core.bytes) a ≡ g → IsCore p parts (after_host_call (rights_of p) s.eip g k.h).core → IsState p (record s { parts = parts }) (next a)
 resumed p s c call next k a g parts e core =
     subst (λ h. IsState p (record s { parts = parts }) h)
-    (sym (k.goes_on a ∙ ap (λ call. after_given (rights_of p) s.eip (given call a) k.h) k.lists ∙ ap (λ g. after_given (rights_of p) s.eip g k.h) e)) (by_given g core)
+    (sym (k.goes_on a ∙ ap (λ call. after_host_call (rights_of p) s.eip (given call a) k.h) k.lists ∙ ap (λ g. after_host_call (rights_of p) s.eip g k.h) e)) (by_given g core)
   where
-    by_given : (g : Given) → IsCore p parts (after_given (rights_of p) s.eip g k.h).core → IsState p (record s { parts = parts }) (after_given (rights_of p) s.eip g k.h)
+    by_given : (g : Given) → IsCore p parts (after_host_call (rights_of p) s.eip g k.h).core → IsState p (record s { parts = parts }) (after_host_call (rights_of p) s.eip g k.h)
     by_given (Gives r bytes) core = record { core = core; eip = refl; choices = k.choices }
     by_given (Fails e) core = record { core = core; eip = refl; choices = k.choices }
 

@@ -8,7 +8,7 @@ use Rattle.space.specs.Reports.{ListedCall, AnswerValue, given}
 use Rattle.runs.specs.Machine.{Outcome, Ends}
 use Rattle.reg_map.specs.Registers.{ebx, ecx, edx}
 use Rattle.machines.specs.Memory.{rights_of}
-use Rattle.machines.specs.Host.{Host, after_given, asks}
+use Rattle.machines.specs.Host.{Host, after_host_call, host_asks}
 use Rattle.machine_calls.specs.Calls.{listed_as, listed_call, is_buffer}
 use Rattle.ia_step.specs.declared.state.State.{State}
 use Rattle.ia_step.specs.Shown.{IsCore}
@@ -19,7 +19,7 @@ asks_for p k next h =
     let fd = h.core.regs ebx in
     let at = h.core.regs ecx in
     let count = h.core.regs edx in
-    cond (is_buffer p k at count) (asks (rights_of p) (listed_as k fd at count h.core.bytes) next h) (Ends Outside)
+    cond (is_buffer p k at count) (host_asks (rights_of p) (listed_as k fd at count h.core.bytes) next h) (Ends Outside)
 
 -- The call c was made from a state of the host, and with its answer the host goes on as `next` says.
 pub record IsAsking (p : Program) (s : State) (c : Call) (call : ListedCall) (next : AnswerValue → Host) : Type 0 where
@@ -29,4 +29,4 @@ pub record IsAsking (p : Program) (s : State) (c : Call) (call : ListedCall) (ne
   pub buffer : h.core.regs ecx ≡ c.at
   pub count : h.core.regs edx ≡ c.count
   pub lists : call ≡ listed_call c h.core.bytes
-  pub goes_on : (answer : AnswerValue) → next answer ≡ after_given (rights_of p) s.eip (given call answer) h
+  pub goes_on : (answer : AnswerValue) → next answer ≡ after_host_call (rights_of p) s.eip (given call answer) h

@@ -8,7 +8,7 @@ use Rattle.space.specs.Memory.{Memory}
 use Rattle.runs.specs.Machine.{Outcome, Ends}
 use Rattle.ia_codec.specs.declared.op.Op.{Op}
 use Rattle.machines.specs.Memory.{rights_of}
-use Rattle.machines.specs.Host.{Host, host_machine, acts}
+use Rattle.machines.specs.Host.{Host, host_machine, host_acts}
 use Rattle.machines.specs.Readings.{Fetched}
 use Rattle.machine_calls.specs.declared.phase.Phase.{Phase}
 use Rattle.machine_calls.specs.declared.phase.Phase.TheVariants.{Going, Waiting, Over}
@@ -30,7 +30,7 @@ Leads p event new o = LeadsTo (IsState p) (IsAsking p) event new o
 
 -- the next op of a state of the host and the address behind it; or the end where there is none
 abbrev pub Fetches : (List ℕ → Option Fetched) → Program → Host → Result (Op × ℕ) End → Type 0
-Fetches ops p h (Ok x) = host_machine ops p h ≡ acts (rights_of p) x.0 x.1 h
+Fetches ops p h (Ok x) = host_machine ops p h ≡ host_acts (rights_of p) x.0 x.1 h
 Fetches ops p h (Err e) = host_machine ops p h ≡ Ends e
 
 -- a machine as contracts see it

@@ -4,7 +4,7 @@ ghost use Rattle.std.specs.Prelude.{◌≡◌, ◌≤◌, ◌-◌, ◌^◌};
 ghost use Rattle.space.specs.declared.program.Program.{Program};
 ghost use Rattle.space.specs.Reports.{ListedCall, AnswerValue, answer_value};
 ghost use Rattle.machines.specs.Memory.{rights_of};
-ghost use Rattle.machines.specs.Host.{Host, system_call};
+ghost use Rattle.machines.specs.Host.{Host, host_system_call};
 ghost use Rattle.machine_calls.specs.Calls.{HasBuffer};
 ghost use Rattle.ia_step.specs.Shown.{IsState};
 ghost use Rattle.ia_step.specs.Calls.{IsAsking, asks_for};
@@ -55,8 +55,8 @@ impl State {
     }
 
     /// int 0x80.
-    pub(crate) fn system_call(&mut self, next: u32) -> Event
-        ensures leads { (p : Program) (h : Host) → IsState p self.old h → Leads p result self.new (system_call (rights_of p) next h) }
+    pub(crate) fn host_system_call(&mut self, next: u32) -> Event
+        ensures leads { (p : Program) (h : Host) → IsState p self.old h → Leads p result self.new (host_system_call (rights_of p) next h) }
         ensures done { IsDone result self.old self.new }
     {
         let number = self.parts.reg(EAX);

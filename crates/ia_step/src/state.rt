@@ -6,7 +6,7 @@ ghost use Rattle.space.specs.declared.program.Program.{Program};
 ghost use Rattle.ia_codec.specs.Spelling.{IsInProfile, IsOperand};
 ghost use Rattle.machines.specs.Memory.{rights_of};
 ghost use Rattle.machines.specs.Readings.{Fetched, ReadsOps};
-ghost use Rattle.machines.specs.Host.{Host, place_of, reads, plain, jumps, jumps_to, divides, unary_acts, acts, host_machine, faults_on, choice_at};
+ghost use Rattle.machines.specs.Host.{Host, place_of, reads, plain, jumps, jumps_to, divides, unary_acts, host_acts, host_machine, faults_on, choice_at};
 ghost use Rattle.ia_step.specs.Shown.{IsState};
 ghost use Rattle.machine_calls.specs.Phases.{IsEnd};
 ghost use Rattle.ia_step.specs.Steps.{Fetches, IsDone, Leads};
@@ -138,7 +138,7 @@ impl State {
     // What the machine does with an op, where the next one stands at `next`.
     fn act(&mut self, op: Op, next: u32) -> Event
         requires { IsInProfile op }
-        ensures leads { (p : Program) (h : Host) → IsState p self.old h → Leads p result self.new (acts (rights_of p) op next h) }
+        ensures leads { (p : Program) (h : Host) → IsState p self.old h → Leads p result self.new (host_acts (rights_of p) op next h) }
         ensures done { IsDone result self.old self.new }
     {
         match op {

@@ -7,7 +7,7 @@ use Rattle.base_flow.specs.Tile.{tile as flow_tile, illegal_items}
 use Rattle.base_flow.proofs.Tiles.{illegal_tile_does_word}
 use Rattle.symbolic_tiles.specs.TileItems.{flows_of}
 use Rattle.symbolic_tiles.specs.declared.flow_op.FlowOp.{FlowOp}
-use Rattle.machines.specs.Guest.{behind, executes}
+use Rattle.machines.specs.Guest.{behind, guest_executes}
 use Rattle.symbolic_tiles.specs.Row.{window_of, WritesHeld}
 use Rattle.symbolic_tiles.specs.Flow.{Fits, FlowDoesWord, flow}
 use Rattle.symbolic_tiles.specs.Marks.{AreMarked}
@@ -115,7 +115,7 @@ module _ (s : SimulationContext) (writes_held : WritesHeld s.guest) where
     record {
       few = few;
       fetched = fetched;
-      fits = λ g core choices here before. subst (λ (w : ℕ). Fits no_registers s.area s.guest core (executes s.guest word g) (flow s.host s.area (tile w) None choices core)) here (does s.area s.guest s.host g core choices before);
+      fits = λ g core choices here before. subst (λ (w : ℕ). Fits no_registers s.area s.guest core (guest_executes s.guest word g) (flow s.host s.area (tile w) None choices core)) here (does s.area s.guest s.host g core choices before);
     },
     laid,
     marked,

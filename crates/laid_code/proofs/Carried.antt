@@ -14,7 +14,7 @@ use Rattle.block_find.specs.declared.block.Block.{Block}
 use Rattle.runs.specs.Machine.{Ends}
 use Rattle.machines.specs.Memory.{rights_of, code_of}
 use Rattle.machines.specs.Readings.{Fetched, ReadsWords, ReadsOps}
-use Rattle.machines.specs.Guest.{behind, is_code_word, code_word, executes}
+use Rattle.machines.specs.Guest.{behind, is_code_word, word_at, guest_executes}
 use Rattle.symbolic_tiles.proofs.PlaceLaws.{programs_write_held}
 use Rattle.simulation.specs.Context.{SimulationContext, IsWordAt, IsOffCode, JumpsTo}
 use Rattle.simulation.specs.Plan.{PlanStep, BlockAt, Begins}
@@ -147,10 +147,10 @@ module _ (Q : Program) (first entry : ℕ) (words : List ℕ) (area : ℕ) (tabl
 
     word_at : (k : ℕ) → k < length words → IsWordAt s (address_of first k) (decoded_at decoded k)
     word_at k lt g at =
-        let read : reading (code_word (code_of P) (address_of first k)) ≡ decoded_at decoded k = ap reading (has.each k lt) ∙ read_as (slice_index words k) (decoded_at decoded k) (carried.code.are_decoded.each k lt) in
-        ap (λ (a : ℕ). cond (is_code_word (code_of P) a) (executes (rights_of P) (reading (code_word (code_of P) a)) g) (Ends Outside)) at
-        ∙ ap (λ (b : Bool). cond b (executes (rights_of P) (reading (code_word (code_of P) (address_of first k))) g) (Ends Outside)) (has.here k lt)
-        ∙ ap (λ (o : Option Instr). executes (rights_of P) o g) read
+        let read : reading (word_at (code_of P) (address_of first k)) ≡ decoded_at decoded k = ap reading (has.each k lt) ∙ read_as (slice_index words k) (decoded_at decoded k) (carried.code.are_decoded.each k lt) in
+        ap (λ (a : ℕ). cond (is_code_word (code_of P) a) (guest_executes (rights_of P) (reading (word_at (code_of P) a)) g) (Ends Outside)) at
+        ∙ ap (λ (b : Bool). cond b (guest_executes (rights_of P) (reading (word_at (code_of P) (address_of first k))) g) (Ends Outside)) (has.here k lt)
+        ∙ ap (λ (o : Option Instr). guest_executes (rights_of P) o g) read
 
     -- from each code word on the words stand as they are decoded
     fetched_from : (n k : ℕ) → k + n ≤ length words → AreFetched s (programs_write_held P) (address_of first k) (take n (drop k decoded))
@@ -219,8 +219,8 @@ module _ (Q : Program) (first entry : ℕ) (words : List ℕ) (area : ℕ) (tabl
 
     off_code : (w : ℕ) → is_code_word (code_of P) w ≡ false → IsOffCode s w
     off_code w off g at =
-        ap (λ (a : ℕ). cond (is_code_word (code_of P) a) (executes (rights_of P) (reading (code_word (code_of P) a)) g) (Ends Outside)) at
-        ∙ ap (λ (b : Bool). cond b (executes (rights_of P) (reading (code_word (code_of P) w)) g) (Ends Outside)) off
+        ap (λ (a : ℕ). cond (is_code_word (code_of P) a) (guest_executes (rights_of P) (reading (word_at (code_of P) a)) g) (Ends Outside)) at
+        ∙ ap (λ (b : Bool). cond b (guest_executes (rights_of P) (reading (word_at (code_of P) w)) g) (Ends Outside)) off
 
     to_hold : (w : ℕ) → is_code_word (code_of P) w ≡ false → targets w ≡ code_start area
     to_hold w off =

@@ -11,7 +11,7 @@ use Rattle.ia_codec.proofs.Lengths.{length-spelling}
 use Rattle.runs.specs.Machine.{Goes, Ends}
 use Rattle.machines.specs.Memory.{Code, is_code}
 use Rattle.machines.specs.Readings.{Fetched}
-use Rattle.machines.specs.Host.{acts, executes, op_bytes}
+use Rattle.machines.specs.Host.{host_acts, host_executes, op_bytes}
 use Rattle.symbolic_tiles.specs.Standing.{OpAt}
 use Rattle.simulation.specs.Context.{SimulationContext, JumpsTo}
 use Rattle.laid_code.specs.Bytes.{HasBytes, RunsCode}
@@ -80,11 +80,11 @@ spelling_stands s code reading here op runs ok has h at =
     let fetched : reading (op_bytes code here) ≡ Some (record { op = op; len = length (spelling op) }) = ap reading (seen code here (spelling op) has) ∙ runs.reads.only _ (record { op = op; len = length (spelling op) }) (spelt_in_twelve op has.behind ok) in
     let low : (here + length (spelling op)) % 2 ^ 32 ≡ here + length (spelling op) = omega (arith, ends_low s code reading here (spelling op) runs has) in
     runs.steps h
-    ∙ ap (λ (a : ℕ). cond (is_code code a) (executes s.host (reading (op_bytes code a)) h) (Ends Outside)) at
-    ∙ ap (λ (b : Bool). cond b (executes s.host (reading (op_bytes code here)) h) (Ends Outside)) (within code here (spelling op) has (length-spelling op).0)
-    ∙ ap (λ (f : Option Fetched). executes s.host f h) fetched
-    ∙ ap (λ (a : ℕ). acts s.host op ((a + length (spelling op)) % 2 ^ 32) h) at
-    ∙ ap (λ (a : ℕ). acts s.host op a h) low
+    ∙ ap (λ (a : ℕ). cond (is_code code a) (host_executes s.host (reading (op_bytes code a)) h) (Ends Outside)) at
+    ∙ ap (λ (b : Bool). cond b (host_executes s.host (reading (op_bytes code here)) h) (Ends Outside)) (within code here (spelling op) has (length-spelling op).0)
+    ∙ ap (λ (f : Option Fetched). host_executes s.host f h) fetched
+    ∙ ap (λ (a : ℕ). host_acts s.host op ((a + length (spelling op)) % 2 ^ 32) h) at
+    ∙ ap (λ (a : ℕ). host_acts s.host op a h) low
 
 pub jump_leads : (s : SimulationContext) (code : Code) (reading : List ℕ → Option Fetched) (here target : ℕ) → RunsCode s code reading → target < 2 ^ 32 → HasBytes code here (spelling (Jmp ((target + (2 ^ 32 - (here + 5))) % 2 ^ 32))) → JumpsTo s here target
 jump_leads s code reading here target runs low has h at =

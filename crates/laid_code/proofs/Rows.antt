@@ -4,7 +4,7 @@ use Rattle.ppc_isa.specs.Legal.{IsLegal}
 use Rattle.ppc_isa.specs.declared.instr.Instr.{Instr}
 use Rattle.runs.specs.Machine.{Outcome, Goes, Asks, Ends}
 use Rattle.machines.specs.Memory.{Rights}
-use Rattle.machines.specs.Guest.{Guest, behind, acts, effect_of}
+use Rattle.machines.specs.Guest.{Guest, behind, guest_acts, effect_of}
 use Rattle.row_laws.specs.FlowWords.{is_flow}
 use Rattle.base_flow.specs.Tile.{tile as flow_tile}
 use Rattle.symbolic_tiles.specs.Row.{window_of, Implements}
@@ -46,7 +46,7 @@ pub record IsFlowingWord (i : Instr) : Type 0 where
   pub does : FlowDoesWord (Some i) no_registers (λ at. flow_tile i at no_registers)
 
 -- the row of an instruction as the only one of its window
-one_row : (o : Outcome Guest) (rights : Rights) (i : Instr) (g : Guest) → acts rights i (effect_of i g) g ≡ o → o ≡ rows_of rights (i ∷ []) g
+one_row : (o : Outcome Guest) (rights : Rights) (i : Instr) (g : Guest) → guest_acts rights i (effect_of i g) g ≡ o → o ≡ rows_of rights (i ∷ []) g
 one_row (Goes g') rights i g e = rw e refl
 one_row (Asks call next) rights i g e = rw e refl
 one_row (Ends how) rights i g e = rw e refl
@@ -58,14 +58,14 @@ quiet_if_straight next (Ends e) h = h
 
 module _ (s : SimulationContext) (writes_held : WritesHeld s.guest) (i : Instr) (word : IsStraightWord i) where
   row_is : (g : Guest) → (window_of i).outcome s.guest g ≡ rows_of s.guest (i ∷ []) g
-  row_is g = one_row (acts s.guest i (effect_of i g) g) s.guest i g refl
+  row_is g = one_row (guest_acts s.guest i (effect_of i g) g) s.guest i g refl
 
   -- its tile does the word at a guest address
   pub straight_tile : (w : ℕ) → IsWordAt s w (Some i) → IsTile s no_registers w (i ∷ []) (window_of i) (word_ops i no_registers)
   straight_tile w fetched = record {
     some = omega arith;
     few = word.few;
-    fetched = (fetched, (λ g. quiet_if_straight (behind g.next) (acts s.guest i (effect_of i g) g) (rows_are_straight i s.guest g word.straight)), tt);
+    fetched = (fetched, (λ g. quiet_if_straight (behind g.next) (guest_acts s.guest i (effect_of i g) g) (rows_are_straight i s.guest g word.straight)), tt);
     rows = row_is;
     inside = record {
       loads = λ g g' a e c. (accesses_are_inside i s.guest g g' word.straight writes_held e).loads a c;

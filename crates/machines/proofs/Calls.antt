@@ -7,20 +7,20 @@ use Rattle.runs.specs.Machine.{Ends}
 use Rattle.ppc_isa.specs.declared.instr.Instr.{Instr}
 use Rattle.machines.specs.Memory.{Rights, block, put_block, each_byte, is_within, is_held, is_writable, first_bytes, rights_of, code_of}
 use Rattle.machines.specs.Readings.{ReadsWords}
-use Rattle.machines.specs.Guest.{Guest, guest_machine, guest_start, writes, after_given, asks, system_call, is_code_word, behind}
+use Rattle.machines.specs.Guest.{Guest, guest_machine, guest_start, writes, after_guest_call, guest_asks, guest_system_call, is_code_word, behind}
 use Rattle.machines.specs.Examples.{IsStack, bytes_of, program_of, EndsAt, write_64, write_65, wrote_64, WritesStack, write_and_exit, WriteGives, WriteAnswers, echo, Echoes, ReadAnswers}
 use Rattle.machines.proofs.Steps.{addi_then, addi_more, sc_exits, sc_asks, sc_dries, sc_last, off_ends}
 use Rattle.machines.proofs.Traces.{Trace, traced}
 use Rattle.machines.proofs.Small.{EndsSilently, ends_at}
 use Rattle.machines.proofs.Stack.{last_false, block_zeros, stack_all_held, stack_all_writable, stack_zeros, behind_stack, and_false}
 
-write_asks : (rights : Rights) (g : Guest) (fd count buffer : ℕ) (bs : List ℕ) → g.locs 0 ≡ 4 → g.locs 3 ≡ fd → g.locs 4 ≡ buffer → g.locs 5 ≡ count → each_byte rights.held count buffer ≡ true → block count buffer g.bytes ≡ bs → system_call rights g ≡ asks (Write fd bs) g
+write_asks : (rights : Rights) (g : Guest) (fd count buffer : ℕ) (bs : List ℕ) → g.locs 0 ≡ 4 → g.locs 3 ≡ fd → g.locs 4 ≡ buffer → g.locs 5 ≡ count → each_byte rights.held count buffer ≡ true → block count buffer g.bytes ≡ bs → guest_system_call rights g ≡ guest_asks (Write fd bs) g
 write_asks rights g fd count buffer bs e0 e3 e4 e5 held blk = rw (e0, e3, e4, e5, held, blk) refl
 
-write_outside : (rights : Rights) (g : Guest) (count buffer : ℕ) → g.locs 0 ≡ 4 → g.locs 4 ≡ buffer → g.locs 5 ≡ count → each_byte rights.held count buffer ≡ false → system_call rights g ≡ Ends Outside
+write_outside : (rights : Rights) (g : Guest) (count buffer : ℕ) → g.locs 0 ≡ 4 → g.locs 4 ≡ buffer → g.locs 5 ≡ count → each_byte rights.held count buffer ≡ false → guest_system_call rights g ≡ Ends Outside
 write_outside rights g count buffer e0 e4 e5 held = rw (e0, e4, e5, held) refl
 
-read_asks : (rights : Rights) (g : Guest) (fd count buffer : ℕ) → g.locs 0 ≡ 3 → g.locs 3 ≡ fd → g.locs 4 ≡ buffer → g.locs 5 ≡ count → each_byte rights.writable count buffer ≡ true → system_call rights g ≡ asks (Read fd count) g
+read_asks : (rights : Rights) (g : Guest) (fd count buffer : ℕ) → g.locs 0 ≡ 3 → g.locs 3 ≡ fd → g.locs 4 ≡ buffer → g.locs 5 ≡ count → each_byte rights.writable count buffer ≡ true → guest_system_call rights g ≡ guest_asks (Read fd count) g
 read_asks rights g fd count buffer e0 e3 e4 e5 held = rw (e0, e3, e4, e5, held) refl
 
 -- an address behind so many bytes of code
@@ -41,7 +41,7 @@ module _ (program stack : List ℕ) (is : IsStack stack) where
 abbrev at_write : List ℕ → List ℕ → Guest
 at_write program stack = writes 5 64 (writes 4 0x7F0FFFC0 (writes 3 1 (writes 0 4 (guest_start (program_of program stack)))))
 
-next_behind : (x : Given) (g : Guest) → (after_given x g).next ≡ behind g.next
+next_behind : (x : Given) (g : Guest) → (after_guest_call x g).next ≡ behind g.next
 next_behind (Gives result buffer) g = refl
 next_behind (Fails error) g = refl
 
@@ -51,7 +51,7 @@ given_r3 (Gives result buffer) = result
 given_r3 (Fails error) = error
 
 module _ (words : ℕ → Option Instr) (stack : List ℕ) (reads : ReadsWords words) (is : IsStack stack) where
-  asks_64 : system_call (rights_of (program_of write_64 stack)) (at_write write_64 stack) ≡ asks (Write 1 (replicate 64 0)) (at_write write_64 stack)
+  asks_64 : guest_system_call (rights_of (program_of write_64 stack)) (at_write write_64 stack) ≡ guest_asks (Write 1 (replicate 64 0)) (at_write write_64 stack)
   asks_64 = write_asks (rights_of (program_of write_64 stack)) (at_write write_64 stack) 1 64 0x7F0FFFC0 (replicate 64 0) refl refl refl refl (held write_64 stack is 64 (omega arith)) (zeros write_64 stack is 64 (omega arith) (omega arith))
 
   dry_trace : Trace (guest_machine words (program_of write_64 stack)) 5 [] (guest_start (program_of write_64 stack)) (wrote_64 (ended Dry))
@@ -73,7 +73,7 @@ module _ (words : ℕ → Option Instr) (stack : List ℕ) (reads : ReadsWords w
       sc_asks reads p (Write 1 (replicate 64 0)) a refl refl asks_64 (
       off_ends reads p (ap (is_code_word (code_of p)) (next_behind (given (Write 1 (replicate 64 0)) a) (at_write write_64 stack))))))))
 
-  exit_trace : (x : Given) (rest : List AnswerValue) → Trace (guest_machine words (program_of write_and_exit stack)) 2 rest (after_given x (at_write write_and_exit stack)) (ended (Exit (given_r3 x)))
+  exit_trace : (x : Given) (rest : List AnswerValue) → Trace (guest_machine words (program_of write_and_exit stack)) 2 rest (after_guest_call x (at_write write_and_exit stack)) (ended (Exit (given_r3 x)))
   exit_trace (Gives result buffer) rest =
       let p = program_of write_and_exit stack in
       addi_then reads p 0 0 1 refl refl refl (sc_exits reads p (Exit result) refl refl refl)
@@ -81,7 +81,7 @@ module _ (words : ℕ → Option Instr) (stack : List ℕ) (reads : ReadsWords w
       let p = program_of write_and_exit stack in
       addi_then reads p 0 0 1 refl refl refl (sc_exits reads p (Exit error) refl refl refl)
 
-  asks_and_exits : system_call (rights_of (program_of write_and_exit stack)) (at_write write_and_exit stack) ≡ asks (Write 1 (replicate 64 0)) (at_write write_and_exit stack)
+  asks_and_exits : guest_system_call (rights_of (program_of write_and_exit stack)) (at_write write_and_exit stack) ≡ guest_asks (Write 1 (replicate 64 0)) (at_write write_and_exit stack)
   asks_and_exits = write_asks (rights_of (program_of write_and_exit stack)) (at_write write_and_exit stack) 1 64 0x7F0FFFC0 (replicate 64 0) refl refl refl refl (held write_and_exit stack is 64 (omega arith)) (zeros write_and_exit stack is 64 (omega arith) (omega arith))
 
   gives_trace : (a : AnswerValue) (rest : List AnswerValue) → Trace (guest_machine words (program_of write_and_exit stack)) 7 (a ∷ rest) (guest_start (program_of write_and_exit stack)) (wrote_64 (ended (Exit (given_r3 (given (Write 1 (replicate 64 0)) a)))))
@@ -132,7 +132,7 @@ abbrev at_read : List ℕ → Guest
 at_read stack = writes 5 4 (writes 4 0x7F0FFFC0 (writes 3 0 (writes 0 3 (guest_start (program_of echo stack)))))
 
 module _ (words : ℕ → Option Instr) (stack : List ℕ) (reads : ReadsWords words) (is : IsStack stack) where
-  asks_4 : system_call (rights_of (program_of echo stack)) (at_read stack) ≡ asks (Read 0 4) (at_read stack)
+  asks_4 : guest_system_call (rights_of (program_of echo stack)) (at_read stack) ≡ guest_asks (Read 0 4) (at_read stack)
   asks_4 = read_asks (rights_of (program_of echo stack)) (at_read stack) 0 4 0x7F0FFFC0 refl refl refl refl (writable echo stack is 4 (omega arith))
 
   dry_read : Trace (guest_machine words (program_of echo stack)) 5 [] (guest_start (program_of echo stack)) (listed (Read 0 4) (ended Dry))
@@ -144,23 +144,23 @@ module _ (words : ℕ → Option Instr) (stack : List ℕ) (reads : ReadsWords w
       addi_then reads p 5 0 4 refl refl refl (
       sc_dries reads p (Read 0 4) refl refl asks_4))))
 
-  echo_rest : (x : Given) (count : ℕ) (bs : List ℕ) → count ≤ 64 → given_r3 x ≡ count → block count 0x7F0FFFC0 (after_given x (at_read stack)).bytes ≡ bs → Trace (guest_machine words (program_of echo stack)) 4 [] (after_given x (at_read stack)) (listed (Write 1 bs) (ended Dry))
+  echo_rest : (x : Given) (count : ℕ) (bs : List ℕ) → count ≤ 64 → given_r3 x ≡ count → block count 0x7F0FFFC0 (after_guest_call x (at_read stack)).bytes ≡ bs → Trace (guest_machine words (program_of echo stack)) 4 [] (after_guest_call x (at_read stack)) (listed (Write 1 bs) (ended Dry))
   echo_rest (Gives result buffer) count bs few e blk =
       let p = program_of echo stack in
-      let g : Guest = writes 3 1 (writes 0 4 (writes 5 ((result + 0) % 2 ^ 32) (after_given (Gives result buffer) (at_read stack)))) in
+      let g : Guest = writes 3 1 (writes 0 4 (writes 5 ((result + 0) % 2 ^ 32) (after_guest_call (Gives result buffer) (at_read stack)))) in
       addi_then reads p 5 3 0 refl refl refl (
       addi_then reads p 0 0 4 refl refl refl (
       addi_then reads p 3 0 1 refl refl refl (
       sc_dries reads p (Write 1 bs) refl refl (write_asks (rights_of p) g 1 count 0x7F0FFFC0 bs refl refl refl (omega (arith, e)) (held echo stack is count few) blk))))
   echo_rest (Fails error) count bs few e blk =
       let p = program_of echo stack in
-      let g : Guest = writes 3 1 (writes 0 4 (writes 5 ((error + 0) % 2 ^ 32) (after_given (Fails error) (at_read stack)))) in
+      let g : Guest = writes 3 1 (writes 0 4 (writes 5 ((error + 0) % 2 ^ 32) (after_guest_call (Fails error) (at_read stack)))) in
       addi_then reads p 5 3 0 refl refl refl (
       addi_then reads p 0 0 4 refl refl refl (
       addi_then reads p 3 0 1 refl refl refl (
       sc_dries reads p (Write 1 bs) refl refl (write_asks (rights_of p) g 1 count 0x7F0FFFC0 bs refl refl refl (omega (arith, e)) (held echo stack is count few) blk))))
 
-  echo_trace : (a : AnswerValue) (count : ℕ) (bs : List ℕ) → count ≤ 64 → given_r3 (given (Read 0 4) a) ≡ count → block count 0x7F0FFFC0 (after_given (given (Read 0 4) a) (at_read stack)).bytes ≡ bs → Trace (guest_machine words (program_of echo stack)) 9 (a ∷ []) (guest_start (program_of echo stack)) (listed (Read 0 4) (listed (Write 1 bs) (ended Dry)))
+  echo_trace : (a : AnswerValue) (count : ℕ) (bs : List ℕ) → count ≤ 64 → given_r3 (given (Read 0 4) a) ≡ count → block count 0x7F0FFFC0 (after_guest_call (given (Read 0 4) a) (at_read stack)).bytes ≡ bs → Trace (guest_machine words (program_of echo stack)) 9 (a ∷ []) (guest_start (program_of echo stack)) (listed (Read 0 4) (listed (Write 1 bs) (ended Dry)))
   echo_trace a count bs few e blk =
       let p = program_of echo stack in
       addi_then reads p 0 0 3 refl refl refl (
@@ -181,7 +181,7 @@ none_put : (bytes : ℕ → ℕ) → block 0 0x7F0FFFC0 (put_block 0x7F0FFFC0 []
 unfolding block put_block
 none_put bytes = refl
 
-echoes : (a : AnswerValue) (count : ℕ) (bs : List ℕ) → count ≤ 64 → given_r3 (given (Read 0 4) a) ≡ count → ((stack : List ℕ) → IsStack stack → block count 0x7F0FFFC0 (after_given (given (Read 0 4) a) (at_read stack)).bytes ≡ bs) → Echoes a bs
+echoes : (a : AnswerValue) (count : ℕ) (bs : List ℕ) → count ≤ 64 → given_r3 (given (Read 0 4) a) ≡ count → ((stack : List ℕ) → IsStack stack → block count 0x7F0FFFC0 (after_guest_call (given (Read 0 4) a) (at_read stack)).bytes ≡ bs) → Echoes a bs
 echoes a count bs few e blk = λ n h words stack reads is. traced (guest_machine words (program_of echo stack)) n 9 (a ∷ []) (guest_start (program_of echo stack)) (listed (Read 0 4) (listed (Write 1 bs) (ended Dry))) (echo_trace words stack reads is a count bs few e (blk stack is)) h
 
 pub read_answers : ReadAnswers

@@ -17,7 +17,7 @@ use Rattle.ia_codec.specs.Rows.{host_row}
 use Rattle.reg_map.specs.Registers.{eax, ecx, edx, ebx}
 use Rattle.machines.specs.Memory.{Rights, Code, is_code, each_byte, block, rights_of, code_of, first_bytes}
 use Rattle.machines.specs.Readings.{Fetched}
-use Rattle.machines.specs.Host.{Choice, Core, Host, no_choice, choice_at, chosen_word, chosen_flags, place_of, values_of, reads, does, goes_to, plain, jumps, jumps_to, faults_on, divides, unary_acts, after_given, asks, system_call, acts, executes, op_bytes, host_step, host_machine, host_start}
+use Rattle.machines.specs.Host.{Choice, Core, Host, no_choice, choice_at, chosen_word, chosen_flags, place_of, host_values, reads, does, goes_to, plain, jumps, jumps_to, faults_on, divides, unary_acts, after_host_call, host_asks, host_system_call, host_acts, host_executes, op_bytes, host_step, host_machine, host_start}
 use Rattle.machines.specs.Laws.{UsesFirstChoices}
 use Rattle.machines.proofs.Tests.{below}
 
@@ -54,21 +54,21 @@ module _ (c d : List Choice) where
 
     jumps_similar : (op : Op) (rel next : ℕ) (core : Core) (eip : ℕ) → Similar c d (jumps rights op rel next (state core eip c)) (jumps rights op rel next (state core eip d))
     jumps_similar op rel next core eip =
-        subst (λ (x : Choice). Similar c d (jumps rights op rel next (state core eip c)) (Goes (state core (cond (host_row op (values_of x core 0 0)).holds ((next + rel) % 2 ^ 32) next) (drop 1 d)))) same (both_go core (cond (host_row op (values_of (choice_at c 0) core 0 0)).holds ((next + rel) % 2 ^ 32) next))
+        subst (λ (x : Choice). Similar c d (jumps rights op rel next (state core eip c)) (Goes (state core (cond (host_row op (host_values x core 0 0)).holds ((next + rel) % 2 ^ 32) next) (drop 1 d)))) same (both_go core (cond (host_row op (host_values (choice_at c 0) core 0 0)).holds ((next + rel) % 2 ^ 32) next))
 
-    given_similar : (next : ℕ) (core : Core) (eip : ℕ) (x : Given) → (after : Core) × (eip' : ℕ) × (after_given rights next x (state core eip c) ≡ state after eip' (drop 1 c)) × (after_given rights next x (state core eip d) ≡ state after eip' (drop 1 d))
-    given_similar next core eip (Gives result buffer) = ((after_given rights next (Gives result buffer) (state core eip c)).core, next, refl, refl)
-    given_similar next core eip (Fails error) = ((after_given rights next (Fails error) (state core eip c)).core, next, refl, refl)
+    given_similar : (next : ℕ) (core : Core) (eip : ℕ) (x : Given) → (after : Core) × (eip' : ℕ) × (after_host_call rights next x (state core eip c) ≡ state after eip' (drop 1 c)) × (after_host_call rights next x (state core eip d) ≡ state after eip' (drop 1 d))
+    given_similar next core eip (Gives result buffer) = ((after_host_call rights next (Gives result buffer) (state core eip c)).core, next, refl, refl)
+    given_similar next core eip (Fails error) = ((after_host_call rights next (Fails error) (state core eip c)).core, next, refl, refl)
 
-    asks_similar : (call : ListedCall) (next : ℕ) (core : Core) (eip : ℕ) → Similar c d (asks rights call next (state core eip c)) (asks rights call next (state core eip d))
+    asks_similar : (call : ListedCall) (next : ℕ) (core : Core) (eip : ℕ) → Similar c d (host_asks rights call next (state core eip c)) (host_asks rights call next (state core eip d))
     asks_similar call next core eip = both_ask call _ _ (λ a. given_similar next core eip (given call a))
 
-    system_similar : (next : ℕ) (core : Core) (eip : ℕ) → Similar c d (system_call rights next (state core eip c)) (system_call rights next (state core eip d))
+    system_similar : (next : ℕ) (core : Core) (eip : ℕ) → Similar c d (host_system_call rights next (state core eip c)) (host_system_call rights next (state core eip d))
     system_similar next core eip =
         similar_cond (eqb (core.regs eax) 1 || eqb (core.regs eax) 252) _ _ _ _ (both_end (Exit (core.regs ebx))) (
         similar_cond (eqb (core.regs eax) 3) _ _ _ _ (similar_cond (each_byte rights.writable (core.regs edx) (core.regs ecx)) _ _ _ _ (asks_similar (Read (core.regs ebx) (core.regs edx)) next core eip) (both_end Outside)) (
         similar_cond (eqb (core.regs eax) 4) _ _ _ _ (similar_cond (each_byte rights.held (core.regs edx) (core.regs ecx)) _ _ _ _ (asks_similar (Write (core.regs ebx) (block (core.regs edx) (core.regs ecx) core.bytes)) next core eip) (both_end Outside)) (
-        similar_cond (eqb (core.regs eax) 6) _ _ _ _ (asks_similar (Close (core.regs ebx)) next core eip) (both_go (after_given rights next (Fails 38) (state core eip c)).core next))))
+        similar_cond (eqb (core.regs eax) 6) _ _ _ _ (asks_similar (Close (core.regs ebx)) next core eip) (both_go (after_host_call rights next (Fails 38) (state core eip c)).core next))))
 
     jumps_to_similar : (target : Option ℕ) (core : Core) (eip : ℕ) → Similar c d (jumps_to rights target (state core eip c)) (jumps_to rights target (state core eip d))
     jumps_to_similar None core eip = both_end Outside
@@ -84,7 +84,7 @@ module _ (c d : List Choice) where
     unary_similar Idiv on next core eip = divides_similar (Unary Idiv on) on next core eip
     unary_similar op on next core eip = plain_similar (Unary op on) next core eip
 
-    acts_similar : (op : Op) (next : ℕ) (core : Core) (eip : ℕ) → Similar c d (acts rights op next (state core eip c)) (acts rights op next (state core eip d))
+    acts_similar : (op : Op) (next : ℕ) (core : Core) (eip : ℕ) → Similar c d (host_acts rights op next (state core eip c)) (host_acts rights op next (state core eip d))
     acts_similar (Unary op on) next core eip = unary_similar op on next core eip
     acts_similar (Jcc condition rel) next core eip = jumps_similar (Jcc condition rel) rel next core eip
     acts_similar (Jmp rel) next core eip = jumps_similar (Jmp rel) rel next core eip
@@ -94,7 +94,7 @@ module _ (c d : List Choice) where
     acts_similar Ud2 next core eip = both_end Illegal
     acts_similar op next core eip = plain_similar op next core eip
 
-    executes_similar : (f : Option Fetched) (core : Core) (eip : ℕ) → Similar c d (executes rights f (state core eip c)) (executes rights f (state core eip d))
+    executes_similar : (f : Option Fetched) (core : Core) (eip : ℕ) → Similar c d (host_executes rights f (state core eip c)) (host_executes rights f (state core eip d))
     executes_similar None core eip = both_end Illegal
     executes_similar (Some f) core eip = acts_similar f.op ((eip + f.len) % 2 ^ 32) core eip
 

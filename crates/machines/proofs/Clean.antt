@@ -13,7 +13,7 @@ use Rattle.ia_codec.specs.declared.op.Operand.TheVariants.{Reg}
 use Rattle.reg_map.specs.Registers.{eax, ecx, edx}
 use Rattle.machines.specs.Memory.{each_byte, Rights, Code, is_code}
 use Rattle.machines.specs.Readings.{Fetched}
-use Rattle.machines.specs.Host.{Core, Host, Place, Register, Memory, place_of, choice_at, has_result, extend_size, bind, reads, gives_to, changes, sets, sets_byte, multiplies, goes_to, jumps_to, faults_on, unary_acts, system_call, acts, executes, op_bytes, host_step}
+use Rattle.machines.specs.Host.{Core, Host, Place, Register, Memory, place_of, choice_at, has_result, extend_size, bind, reads, gives_to, changes, sets, sets_byte, multiplies, goes_to, jumps_to, faults_on, unary_acts, host_system_call, host_acts, host_executes, op_bytes, host_step}
 use Rattle.machines.specs.Agreement.{is_apart, reads_apart, fetched_apart, IsClean, without}
 use Rattle.machines.proofs.Tests.{both, first_of_both, second_of_both, equal}
 
@@ -72,14 +72,14 @@ module _ (rights : Rights) (code : Code) where
   one_read next h place then (inl e) = inl (ap (λ (o : Option ℕ). goes_to rights next h (bind o then)) e.0, e.1)
   one_read next h place then (inr e) = inr (ap (λ (o : Option ℕ). goes_to rights next h (bind o then)) e.0, λ apart. ap (λ (o : Option ℕ). goes_to rights next h (bind o then)) (e.1 apart))
 
-  system_less : (next : ℕ) (h : Host) → Less (system_call narrow next h) (system_call rights next h) (reads_apart code Int80 h.core)
+  system_less : (next : ℕ) (h : Host) → Less (host_system_call narrow next h) (host_system_call rights next h) (reads_apart code Int80 h.core)
   system_less next h = by_number (eqb (h.core.regs eax) 4) refl
     where
-      by_write : h.core.regs 0 ≡ 4 → HeldLess (h.core.regs edx) (h.core.regs ecx) → Less (system_call narrow next h) (system_call rights next h) (reads_apart code Int80 h.core)
+      by_write : h.core.regs 0 ≡ 4 → HeldLess (h.core.regs edx) (h.core.regs ecx) → Less (host_system_call narrow next h) (host_system_call rights next h) (reads_apart code Int80 h.core)
       by_write e (inl held) = inl (rw (e, held.0, held.1) refl, rw (e, held.2) refl)
       by_write e (inr held) = inr (rw (e, held.0) refl, λ apart. rw (e, held.0, held.1 (rw e at apart)) refl)
 
-      by_number : (b : Bool) → eqb (h.core.regs eax) 4 ≡ b → Less (system_call narrow next h) (system_call rights next h) (reads_apart code Int80 h.core)
+      by_number : (b : Bool) → eqb (h.core.regs eax) 4 ≡ b → Less (host_system_call narrow next h) (host_system_call rights next h) (reads_apart code Int80 h.core)
       by_number true e = by_write (equal (h.core.regs 0) 4 e) (held_less (h.core.regs edx) (h.core.regs ecx))
       by_number false e = inl (rw e refl, rw e refl)
 
@@ -115,7 +115,7 @@ module _ (rights : Rights) (code : Code) where
   jumps_to_less to h (inl e) = inl (ap (λ (o : Option ℕ). jumps_to rights o h) e.0, e.1)
   jumps_to_less to h (inr e) = inr (ap (λ (o : Option ℕ). jumps_to rights o h) e.0, λ apart. ap (λ (o : Option ℕ). jumps_to rights o h) (e.1 apart))
 
-  acts_less : (op : Op) (next : ℕ) (h : Host) → Less (acts narrow op next h) (acts rights op next h) (reads_apart code op h.core)
+  acts_less : (op : Op) (next : ℕ) (h : Host) → Less (host_acts narrow op next h) (host_acts rights op next h) (reads_apart code op h.core)
   acts_less (AluTo op to from) next h = changes_less (AluTo op to from) (has_result op) (place_of 4 to h.core.regs) (h.core.regs from) next h
   acts_less (AluFrom op to from) next h = takes_less (AluFrom op to from) (has_result op) to (place_of 4 from h.core.regs) next h
   acts_less (AluImm op to imm) next h = changes_less (AluImm op to imm) (has_result op) (place_of 4 to h.core.regs) imm next h
@@ -135,12 +135,12 @@ module _ (rights : Rights) (code : Code) where
   -- the others read no memory
   acts_less _ next h = inl (refl, refl)
 
-  executes_less : (f : Option Fetched) (h : Host) → Less (executes narrow f h) (executes rights f h) (fetched_apart code f h.core)
+  executes_less : (f : Option Fetched) (h : Host) → Less (host_executes narrow f h) (host_executes rights f h) (fetched_apart code f h.core)
   executes_less None h = inl (refl, refl)
   executes_less (Some f) h = acts_less f.op ((h.eip + f.len) % 2 ^ 32) h
 
   module _ (ops : List ℕ → Option Fetched) where
-    step_less : (h : Host) (b : Bool) → Less (executes narrow (ops (op_bytes code h.eip)) h) (executes rights (ops (op_bytes code h.eip)) h) (fetched_apart code (ops (op_bytes code h.eip)) h.core) → Less (cond b (executes narrow (ops (op_bytes code h.eip)) h) (Ends Outside)) (cond b (executes rights (ops (op_bytes code h.eip)) h) (Ends Outside)) (fetched_apart code (ops (op_bytes code h.eip)) h.core)
+    step_less : (h : Host) (b : Bool) → Less (host_executes narrow (ops (op_bytes code h.eip)) h) (host_executes rights (ops (op_bytes code h.eip)) h) (fetched_apart code (ops (op_bytes code h.eip)) h.core) → Less (cond b (host_executes narrow (ops (op_bytes code h.eip)) h) (Ends Outside)) (cond b (host_executes rights (ops (op_bytes code h.eip)) h) (Ends Outside)) (fetched_apart code (ops (op_bytes code h.eip)) h.core)
     step_less h true less = less
     step_less h false less = inr (refl, λ _. refl)
 

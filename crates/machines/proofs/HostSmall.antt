@@ -16,22 +16,22 @@ use Rattle.ia_codec.specs.Reading.{read, byte_at, modrm_at, plain_at, plain_op}
 use Rattle.ia_codec.proofs.Spelt.{read-spelt}
 use Rattle.machines.specs.Memory.{is_code, each_byte, load, store, is_held, is_writable, rights_of, code_of}
 use Rattle.machines.specs.Readings.{Fetched, ReadsOps}
-use Rattle.machines.specs.Host.{Choice, Host, op_bytes, acts, executes, host_machine, host_start}
+use Rattle.machines.specs.Host.{Choice, Host, op_bytes, host_acts, host_executes, host_machine, host_start}
 use Rattle.machines.specs.HostExamples.{host_program, HostEndsAt, HostEndsBy, host_exit, host_unknown, host_branch, host_no_branch, host_memory, host_code_write, host_trap, host_ud2, host_nothing, host_off}
 use Rattle.machines.proofs.Tests.{upto}
 use Rattle.machines.proofs.Traces.{Silent, last, more, trace_of, traced, not_over}
 
 module _ {ops : List ℕ → Option Fetched} (reads : ReadsOps ops) (p : Program) where
-  stepped : (h : Host) (op : Op) (len : ℕ) → is_code (code_of p) h.eip ≡ true → IsInProfile op → leb len (length (op_bytes (code_of p) h.eip)) ≡ true → take len (op_bytes (code_of p) h.eip) ≡ spelling op → host_machine ops p h ≡ acts (rights_of p) op ((h.eip + len) % 2 ^ 32) h
+  stepped : (h : Host) (op : Op) (len : ℕ) → is_code (code_of p) h.eip ≡ true → IsInProfile op → leb len (length (op_bytes (code_of p) h.eip)) ≡ true → take len (op_bytes (code_of p) h.eip) ≡ spelling op → host_machine ops p h ≡ host_acts (rights_of p) op ((h.eip + len) % 2 ^ 32) h
   stepped h op len inside profile long front =
       let f : Fetched = record { op = op; len = len } in
-      ap (λ (b : Bool). cond b (executes (rights_of p) (ops (op_bytes (code_of p) h.eip)) h) (Ends Outside)) inside
-      ∙ ap (λ (o : Option Fetched). executes (rights_of p) o h) (reads.only (op_bytes (code_of p) h.eip) f (record { profile = profile; within = upto len _ long; front = front }))
+      ap (λ (b : Bool). cond b (host_executes (rights_of p) (ops (op_bytes (code_of p) h.eip)) h) (Ends Outside)) inside
+      ∙ ap (λ (o : Option Fetched). host_executes (rights_of p) o h) (reads.only (op_bytes (code_of p) h.eip) f (record { profile = profile; within = upto len _ long; front = front }))
 
-  pub op_more : {h : Host} {k : ℕ} {e : End} {t : Host} (op : Op) (len : ℕ) → is_code (code_of p) h.eip ≡ true → IsInProfile op → leb len (length (op_bytes (code_of p) h.eip)) ≡ true → take len (op_bytes (code_of p) h.eip) ≡ spelling op → acts (rights_of p) op ((h.eip + len) % 2 ^ 32) h ≡ Goes t → Silent (host_machine ops p) k t e → Silent (host_machine ops p) (suc k) h e
+  pub op_more : {h : Host} {k : ℕ} {e : End} {t : Host} (op : Op) (len : ℕ) → is_code (code_of p) h.eip ≡ true → IsInProfile op → leb len (length (op_bytes (code_of p) h.eip)) ≡ true → take len (op_bytes (code_of p) h.eip) ≡ spelling op → host_acts (rights_of p) op ((h.eip + len) % 2 ^ 32) h ≡ Goes t → Silent (host_machine ops p) k t e → Silent (host_machine ops p) (suc k) h e
   op_more {h = h} op len inside profile long front goes rest = more (stepped h op len inside profile long front ∙ goes) rest
 
-  pub op_last : {h : Host} (e : End) (op : Op) (len : ℕ) → is_code (code_of p) h.eip ≡ true → IsInProfile op → leb len (length (op_bytes (code_of p) h.eip)) ≡ true → take len (op_bytes (code_of p) h.eip) ≡ spelling op → acts (rights_of p) op ((h.eip + len) % 2 ^ 32) h ≡ Ends e → Silent (host_machine ops p) 1 h e
+  pub op_last : {h : Host} (e : End) (op : Op) (len : ℕ) → is_code (code_of p) h.eip ≡ true → IsInProfile op → leb len (length (op_bytes (code_of p) h.eip)) ≡ true → take len (op_bytes (code_of p) h.eip) ≡ spelling op → host_acts (rights_of p) op ((h.eip + len) % 2 ^ 32) h ≡ Ends e → Silent (host_machine ops p) 1 h e
   op_last {h = h} e op len inside profile long front ends = last (stepped h op len inside profile long front ∙ ends)
 
   -- bytes that are read as no op from the left begin with no spelling
@@ -44,11 +44,11 @@ module _ {ops : List ℕ → Option Fetched} (reads : ReadsOps ops) (p : Program
 
   unread_last : {h : Host} → is_code (code_of p) h.eip ≡ true → read (op_bytes (code_of p) h.eip) ≡ None → Silent (host_machine ops p) 1 h Illegal
   unread_last {h = h} inside n =
-      last (ap (λ (b : Bool). cond b (executes (rights_of p) (ops (op_bytes (code_of p) h.eip)) h) (Ends Outside)) inside
-      ∙ ap (λ (o : Option Fetched). executes (rights_of p) o h) (unread (op_bytes (code_of p) h.eip) n))
+      last (ap (λ (b : Bool). cond b (host_executes (rights_of p) (ops (op_bytes (code_of p) h.eip)) h) (Ends Outside)) inside
+      ∙ ap (λ (o : Option Fetched). host_executes (rights_of p) o h) (unread (op_bytes (code_of p) h.eip) n))
 
   off_last : {h : Host} → is_code (code_of p) h.eip ≡ false → Silent (host_machine ops p) 1 h Outside
-  off_last {h = h} outside = last (ap (λ (b : Bool). cond b (executes (rights_of p) (ops (op_bytes (code_of p) h.eip)) h) (Ends Outside)) outside)
+  off_last {h = h} outside = last (ap (λ (b : Bool). cond b (host_executes (rights_of p) (ops (op_bytes (code_of p) h.eip)) h) (Ends Outside)) outside)
 
 abbrev pub EndsSilentlyBy : List ℕ → ℕ → (List Choice → End) → Type 0
 EndsSilentlyBy code k how = (ops : List ℕ → Option Fetched) → ReadsOps ops → (choices : List Choice) → Silent (host_machine ops (host_program code)) k (host_start (host_program code) choices) (how choices)

@@ -5,7 +5,7 @@ use Rattle.space.specs.declared.call.End.TheVariants.{Exit, Illegal}
 use Rattle.space.specs.Reports.{ended, Fails}
 use Rattle.ppc_isa.specs.declared.instr.Instr.{Instr}
 use Rattle.machines.specs.Readings.{ReadsWords}
-use Rattle.machines.specs.Guest.{guest_machine, guest_start, writes, after_given}
+use Rattle.machines.specs.Guest.{guest_machine, guest_start, writes, after_guest_call}
 use Rattle.machines.specs.Examples.{IsStack, program_of, EndsAt, exit_seven, unknown_call, jump, jump_back, add_negative, no_instruction}
 use Rattle.machines.proofs.Steps.{addi_more, add_more, branch_more, sc_more, sc_last, illegal_last}
 use Rattle.ppc_isa.specs.Reading.{read}
@@ -30,7 +30,7 @@ pub unknown : EndsSilently unknown_call 4 (Exit 38)
 unknown words reads stack is =
     let p = program_of unknown_call stack in
     addi_more reads p 0 0 99 refl refl refl (
-    sc_more reads p (after_given (Fails 38) (writes 0 99 (guest_start p))) refl refl refl (
+    sc_more reads p (after_guest_call (Fails 38) (writes 0 99 (guest_start p))) refl refl refl (
     addi_more reads p 0 0 1 refl refl refl (sc_last reads p (Exit 38) refl refl refl)))
 
 pub jumped : EndsSilently jump 4 (Exit 7)

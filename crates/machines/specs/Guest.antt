@@ -146,8 +146,8 @@ value_s (LoadIndexedUpdate op d a b) locs = locs d
 value_s (StoreIndexedUpdate op s a b) locs = locs s
 value_s _ locs = 0
 
-abbrev pub values_of : Instr → ℕ → (ℕ → ℕ) → GuestValues
-values_of i loaded locs = record {
+abbrev pub guest_values : Instr → ℕ → (ℕ → ℕ) → GuestValues
+guest_values i loaded locs = record {
   a = value_a i locs;
   b = value_b i locs;
   s = value_s i locs;
@@ -158,19 +158,19 @@ values_of i loaded locs = record {
   loaded = loaded;
 }
 
--- what the access loads, its highest byte first
+-- what the access load_outcome, its highest byte first
 abbrev pub loaded_by : Access → ℕ → ℕ → (ℕ → ℕ) → ℕ
 loaded_by NoAccess width address bytes = 0
 loaded_by LoadAccess width address bytes = load_big width address bytes
 loaded_by StoreAccess width address bytes = 0
 
--- where and how an instruction loads doesn't depend on what it loads
+-- where and how an instruction load_outcome doesn't depend on what it load_outcome
 abbrev pub loaded_in : Effect → (ℕ → ℕ) → ℕ
 loaded_in e bytes = loaded_by e.kind e.width e.address bytes
 
 -- the effect of an instruction in a state
 abbrev pub effect_of : Instr → Guest → Effect
-effect_of i g = guest_row i (values_of i (loaded_in (guest_row i (values_of i 0 g.locs)) g.bytes) g.locs)
+effect_of i g = guest_row i (guest_values i (loaded_in (guest_row i (guest_values i 0 g.locs)) g.bytes) g.locs)
 
 -- the address behind an instruction
 abbrev pub behind : ℕ → ℕ
@@ -182,11 +182,11 @@ abbrev pub branch_target : ℕ → ℕ → Bool → ℕ → ℕ
 branch_target len field absolute at = cond absolute (sign_extended (len + 2) (4 * field)) ((at + sign_extended (len + 2) (4 * field)) % 2 ^ 32)
 
 -- the next instruction, with the locations changed, and with one of them
-abbrev pub onward : (ℕ → ℕ) → Guest → Guest
-onward locs g = record g { locs = locs; next = behind g.next }
+abbrev pub at_next : (ℕ → ℕ) → Guest → Guest
+at_next locs g = record g { locs = locs; next = behind g.next }
 
 abbrev pub writes : ℕ → ℕ → Guest → Guest
-writes x v g = onward (update g.locs x v) g
+writes x v g = at_next (update g.locs x v) g
 
 -- a form that records puts CR, one that carries puts XER
 abbrev pub puts_cr : Bool → Effect → (ℕ → ℕ) → ℕ → ℕ
@@ -232,95 +232,95 @@ abbrev pub with_so : ℕ → ℕ
 with_so field = 2 * (field / 2) + 1
 
 -- Linux gives a result in r3 with CR0's SO cleared, an error's number there with it set.
-abbrev pub after_given : Given → Guest → Guest
-after_given (Gives result to_buffer) g = record {
+abbrev pub after_guest_call : Given → Guest → Guest
+after_guest_call (Gives result to_buffer) g = record {
   locs = update (update g.locs 3 result) (cr_field 0) (without_so (g.locs (cr_field 0)));
   next = behind g.next;
   bytes = put_block (g.locs 4) to_buffer g.bytes;
 }
-after_given (Fails error) g = record {
+after_guest_call (Fails error) g = record {
   locs = update (update g.locs 3 error) (cr_field 0) (with_so (g.locs (cr_field 0)));
   next = behind g.next;
   bytes = g.bytes;
 }
 
-abbrev pub asks : ListedCall → Guest → Outcome Guest
-asks call g = Asks call (λ answer. after_given (given call answer) g)
+abbrev pub guest_asks : ListedCall → Guest → Outcome Guest
+guest_asks call g = Asks call (λ answer. after_guest_call (given call answer) g)
 
 module _ (rights : Rights) where
   -- sc: the number is in r0, the operands are in r3, r4, r5. 1 is exit and 234 exit_group, 3 read, 4 write, 6 close;
   -- every other number has error 38, ENOSYS. A buffer that isn't held ends the run.
-  abbrev pub system_call : Guest → Outcome Guest
-  system_call g =
+  abbrev pub guest_system_call : Guest → Outcome Guest
+  guest_system_call g =
       let number = g.locs 0 in
       let fd = g.locs 3 in
       let buffer = g.locs 4 in
       let count = g.locs 5 in
       cond (eqb number 1 || eqb number 234) (Ends (Exit fd)) (
-      cond (eqb number 3) (cond (each_byte rights.writable count buffer) (asks (Read fd count) g) (Ends Outside)) (
-      cond (eqb number 4) (cond (each_byte rights.held count buffer) (asks (Write fd (block count buffer g.bytes)) g) (Ends Outside)) (
-      cond (eqb number 6) (asks (Close fd) g) (
-      Goes (after_given (Fails 38) g)))))
+      cond (eqb number 3) (cond (each_byte rights.writable count buffer) (guest_asks (Read fd count) g) (Ends Outside)) (
+      cond (eqb number 4) (cond (each_byte rights.held count buffer) (guest_asks (Write fd (block count buffer g.bytes)) g) (Ends Outside)) (
+      cond (eqb number 6) (guest_asks (Close fd) g) (
+      Goes (after_guest_call (Fails 38) g)))))
 
   -- a load, and a store, each of whose bytes is inside; else nothing is changed
-  abbrev pub loads : (ℕ → ℕ) → Effect → Guest → Outcome Guest
-  loads locs e g = cond (each_byte rights.held e.width e.address) (Goes (onward locs g)) (Ends Outside)
+  abbrev pub load_outcome : (ℕ → ℕ) → Effect → Guest → Outcome Guest
+  load_outcome locs e g = cond (each_byte rights.held e.width e.address) (Goes (at_next locs g)) (Ends Outside)
 
-  abbrev pub stores : (ℕ → ℕ) → (ℕ → ℕ) → Effect → Guest → Outcome Guest
-  stores bytes locs e g = cond (each_byte rights.writable e.width e.address) (Goes (record (onward locs g) { bytes = bytes })) (Ends Outside)
+  abbrev pub store_outcome : (ℕ → ℕ) → (ℕ → ℕ) → Effect → Guest → Outcome Guest
+  store_outcome bytes locs e g = cond (each_byte rights.writable e.width e.address) (Goes (record (at_next locs g) { bytes = bytes })) (Ends Outside)
 
   -- what the machine does with an instruction and its effect
-  abbrev pub acts : Instr → Effect → Guest → Outcome Guest
-  acts (Immediate op d a imm) e g = Goes (onward (results (immediate_carries op) (immediate_records op) d e.d e g.locs) g)
-  acts (LogicImmediate op s a imm) e g = Goes (onward (results false (logic_immediate_records op) a e.a e g.locs) g)
-  acts (Load op d a imm) e g = loads (update g.locs d e.d) e g
-  acts (Store op s a imm) e g = stores (store_big e.width e.address e.stored g.bytes) g.locs e g
-  acts (LoadUpdate op d a imm) e g = loads (update (update g.locs d e.d) a e.a) e g
-  acts (StoreUpdate op s a imm) e g = stores (store_big e.width e.address e.stored g.bytes) (update g.locs a e.a) e g
-  acts (Multiple Lmw d a imm) e g = loads (put_loaded d e.address g.bytes g.locs) e g
-  acts (Multiple Stmw s a imm) e g = stores (store_registers (32 - s) s e.address g.locs g.bytes) g.locs e g
-  acts (TrapImmediate to a imm) e g = cond e.taken (Ends Trapped) (Goes (onward g.locs g))
-  acts (CompareImmediate op field a imm) e g = Goes (onward (put_cr e.cr g.locs) g)
-  acts (Rotate op s a by mask_begin mask_end records) e g = Goes (onward (results false records a e.a e g.locs) g)
-  acts (Branch target absolute link) e g = Goes (branches (linked link g.next g.locs) e.taken (branch_target 24 target absolute g.next) g)
-  acts (BranchConditional bo bi target absolute link) e g = Goes (branches (linked link g.next (update g.locs ctr e.ctr)) e.taken (branch_target 14 target absolute g.next) g)
-  acts SystemCall e g = system_call g
-  acts (Arithmetic op d a b records) e g = Goes (onward (results (carry_out op) records d e.d e g.locs) g)
-  acts (ArithmeticUnary op d a records) e g = Goes (onward (results (unary_carry op) records d e.d e g.locs) g)
-  acts (Logic op s a b records) e g = Goes (onward (results (logic_carries op) records a e.a e g.locs) g)
-  acts (ShiftImmediate s a by records) e g = Goes (onward (results true records a e.a e g.locs) g)
-  acts (LogicUnary op s a records) e g = Goes (onward (results false records a e.a e g.locs) g)
-  acts (Compare op field a b) e g = Goes (onward (put_cr e.cr g.locs) g)
-  acts (Trap to a b) e g = cond e.taken (Ends Trapped) (Goes (onward g.locs g))
-  acts (MoveFromCr d) e g = Goes (writes d e.d g)
-  acts (MoveToCr s mask) e g = Goes (onward (put_cr e.cr g.locs) g)
-  acts (MoveFromSpr d spr) e g = Goes (writes d e.d g)
-  acts (MoveToSpr s spr) e g = Goes (onward (put_special spr e g.locs) g)
-  acts Sync e g = Goes (onward g.locs g)
-  acts (LoadIndexed op d a b) e g = loads (update g.locs d e.d) e g
-  acts (StoreIndexed op s a b) e g = stores (store_big e.width e.address e.stored g.bytes) g.locs e g
-  acts (LoadIndexedUpdate op d a b) e g = loads (update (update g.locs d e.d) a e.a) e g
-  acts (StoreIndexedUpdate op s a b) e g = stores (store_big e.width e.address e.stored g.bytes) (update g.locs a e.a) e g
-  acts (MoveCrField to from) e g = Goes (onward (put_cr e.cr g.locs) g)
-  acts (CrLogic op d a b) e g = Goes (onward (put_cr e.cr g.locs) g)
-  acts Isync e g = Goes (onward g.locs g)
-  acts (BranchRegister op bo bi link) e g = Goes (branches (linked link g.next (update g.locs ctr e.ctr)) e.taken (register_target op g.locs) g)
+  abbrev pub guest_acts : Instr → Effect → Guest → Outcome Guest
+  guest_acts (Immediate op d a imm) e g = Goes (at_next (results (immediate_carries op) (immediate_records op) d e.d e g.locs) g)
+  guest_acts (LogicImmediate op s a imm) e g = Goes (at_next (results false (logic_immediate_records op) a e.a e g.locs) g)
+  guest_acts (Load op d a imm) e g = load_outcome (update g.locs d e.d) e g
+  guest_acts (Store op s a imm) e g = store_outcome (store_big e.width e.address e.stored g.bytes) g.locs e g
+  guest_acts (LoadUpdate op d a imm) e g = load_outcome (update (update g.locs d e.d) a e.a) e g
+  guest_acts (StoreUpdate op s a imm) e g = store_outcome (store_big e.width e.address e.stored g.bytes) (update g.locs a e.a) e g
+  guest_acts (Multiple Lmw d a imm) e g = load_outcome (put_loaded d e.address g.bytes g.locs) e g
+  guest_acts (Multiple Stmw s a imm) e g = store_outcome (store_registers (32 - s) s e.address g.locs g.bytes) g.locs e g
+  guest_acts (TrapImmediate to a imm) e g = cond e.taken (Ends Trapped) (Goes (at_next g.locs g))
+  guest_acts (CompareImmediate op field a imm) e g = Goes (at_next (put_cr e.cr g.locs) g)
+  guest_acts (Rotate op s a by mask_begin mask_end records) e g = Goes (at_next (results false records a e.a e g.locs) g)
+  guest_acts (Branch target absolute link) e g = Goes (branches (linked link g.next g.locs) e.taken (branch_target 24 target absolute g.next) g)
+  guest_acts (BranchConditional bo bi target absolute link) e g = Goes (branches (linked link g.next (update g.locs ctr e.ctr)) e.taken (branch_target 14 target absolute g.next) g)
+  guest_acts SystemCall e g = guest_system_call g
+  guest_acts (Arithmetic op d a b records) e g = Goes (at_next (results (carry_out op) records d e.d e g.locs) g)
+  guest_acts (ArithmeticUnary op d a records) e g = Goes (at_next (results (unary_carry op) records d e.d e g.locs) g)
+  guest_acts (Logic op s a b records) e g = Goes (at_next (results (logic_carries op) records a e.a e g.locs) g)
+  guest_acts (ShiftImmediate s a by records) e g = Goes (at_next (results true records a e.a e g.locs) g)
+  guest_acts (LogicUnary op s a records) e g = Goes (at_next (results false records a e.a e g.locs) g)
+  guest_acts (Compare op field a b) e g = Goes (at_next (put_cr e.cr g.locs) g)
+  guest_acts (Trap to a b) e g = cond e.taken (Ends Trapped) (Goes (at_next g.locs g))
+  guest_acts (MoveFromCr d) e g = Goes (writes d e.d g)
+  guest_acts (MoveToCr s mask) e g = Goes (at_next (put_cr e.cr g.locs) g)
+  guest_acts (MoveFromSpr d spr) e g = Goes (writes d e.d g)
+  guest_acts (MoveToSpr s spr) e g = Goes (at_next (put_special spr e g.locs) g)
+  guest_acts Sync e g = Goes (at_next g.locs g)
+  guest_acts (LoadIndexed op d a b) e g = load_outcome (update g.locs d e.d) e g
+  guest_acts (StoreIndexed op s a b) e g = store_outcome (store_big e.width e.address e.stored g.bytes) g.locs e g
+  guest_acts (LoadIndexedUpdate op d a b) e g = load_outcome (update (update g.locs d e.d) a e.a) e g
+  guest_acts (StoreIndexedUpdate op s a b) e g = store_outcome (store_big e.width e.address e.stored g.bytes) (update g.locs a e.a) e g
+  guest_acts (MoveCrField to from) e g = Goes (at_next (put_cr e.cr g.locs) g)
+  guest_acts (CrLogic op d a b) e g = Goes (at_next (put_cr e.cr g.locs) g)
+  guest_acts Isync e g = Goes (at_next g.locs g)
+  guest_acts (BranchRegister op bo bi link) e g = Goes (branches (linked link g.next (update g.locs ctr e.ctr)) e.taken (register_target op g.locs) g)
 
-  abbrev pub executes : Option Instr → Guest → Outcome Guest
-  executes None g = Ends Illegal
-  executes (Some i) g = acts i (effect_of i g) g
+  abbrev pub guest_executes : Option Instr → Guest → Outcome Guest
+  guest_executes None g = Ends Illegal
+  guest_executes (Some i) g = guest_acts i (effect_of i g) g
 
 -- a code word is an aligned word all of whose bytes lie in the code
 abbrev pub is_code_word : Code → ℕ → Bool
 is_code_word code a = eqb (a % 4) 0 && leb code.at a && leb (a + 4) (code.at + length code.bytes)
 
 -- its highest byte stands first
-abbrev pub code_word : Code → ℕ → ℕ
-code_word code a = code_byte code a * 2 ^ 24 + code_byte code (a + 1) * 2 ^ 16 + code_byte code (a + 2) * 2 ^ 8 + code_byte code (a + 3)
+abbrev pub word_at : Code → ℕ → ℕ
+word_at code a = code_byte code a * 2 ^ 24 + code_byte code (a + 1) * 2 ^ 16 + code_byte code (a + 2) * 2 ^ 8 + code_byte code (a + 3)
 
 -- one step: the word at the next address is fetched, read and executed
 abbrev pub guest_step : Rights → Code → (ℕ → Option Instr) → Guest → Outcome Guest
-guest_step rights code reading g = cond (is_code_word code g.next) (executes rights (reading (code_word code g.next)) g) (Ends Outside)
+guest_step rights code reading g = cond (is_code_word code g.next) (guest_executes rights (reading (word_at code g.next)) g) (Ends Outside)
 
 -- r1 at the start: the end of the stack segment, less 64 bytes
 abbrev pub stack_start : ℕ

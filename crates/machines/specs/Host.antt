@@ -81,8 +81,8 @@ abbrev pub bind : {A B : Type 0} → Option A → (A → Option B) → Option B
 bind None f = None
 bind (Some a) f = f a
 
-abbrev pub values_of : Choice → Core → ℕ → ℕ → HostValues
-values_of c core x y = record { x = x; y = y; high = core.regs edx; flags = core.flags; free = chosen_word c; free_flags = chosen_flags c }
+abbrev pub host_values : Choice → Core → ℕ → ℕ → HostValues
+host_values c core x y = record { x = x; y = y; high = core.regs edx; flags = core.flags; free = chosen_word c; free_flags = chosen_flags c }
 
 -- cmp has no result
 abbrev pub has_result : AluOp → Bool
@@ -133,7 +133,7 @@ module _ (rights : Rights) where
 
   -- an op on the values x and y whose result goes to a place
   abbrev pub gives_to : Op → Choice → Bool → Place → Core → ℕ → ℕ → Option Core
-  gives_to op c result place core x y = leaves result (host_row op (values_of c core x y)) place core
+  gives_to op c result place core x y = leaves result (host_row op (host_values c core x y)) place core
 
   -- an op that reads and writes its first operand
   abbrev pub changes : Op → Choice → Bool → Place → Core → Option ℕ → Option Core
@@ -145,11 +145,11 @@ module _ (rights : Rights) where
 
   -- the same for an op whose result is one byte, of a register also
   abbrev pub sets_byte : Op → Choice → Operand → Core → Option ℕ → Option Core
-  sets_byte op c to core y = bind y (λ y. puts core (place_of 1 to core.regs) (byte_for to core (host_row op (values_of c core 0 y)).result))
+  sets_byte op c to core y = bind y (λ y. puts core (place_of 1 to core.regs) (byte_for to core (host_row op (host_values c core 0 y)).result))
 
   -- an op on eax and its operand whose results go to eax and edx
   abbrev pub multiplies : Op → Choice → Core → Option ℕ → Option Core
-  multiplies op c core y = bind y (λ y. Some (puts_both (host_row op (values_of c core (core.regs eax) y)) core))
+  multiplies op c core y = bind y (λ y. Some (puts_both (host_row op (host_values c core (core.regs eax) y)) core))
 
   -- not and neg change their operand; the others are products and divisions
   abbrev pub unary_does : UnaryOp → Operand → Choice → Core → Option Core
@@ -181,7 +181,7 @@ module _ (rights : Rights) where
   does (Set condition to) c core = sets_byte (Set condition to) c to core (Some 0)
   does (Cmov condition to from) c core = changes (Cmov condition to from) c true (Register to) core (reads core (place_of 4 from core.regs))
   does (Bsr to from) c core = changes (Bsr to from) c true (Register to) core (reads core (place_of 4 from core.regs))
-  does Cdq c core = Some (record core { regs = update core.regs edx (host_row Cdq (values_of c core (core.regs eax) 0)).high })
+  does Cdq c core = Some (record core { regs = update core.regs edx (host_row Cdq (host_values c core (core.regs eax) 0)).high })
   does _ c core = None
 
   -- the state behind an op
@@ -194,37 +194,37 @@ module _ (rights : Rights) where
 
   -- a jump is counted from the next op's address
   abbrev pub jumps : Op → ℕ → ℕ → Host → Outcome Host
-  jumps op rel next h = goes_to (cond (host_row op (values_of (choice_at h.choices 0) h.core 0 0)).holds ((next + rel) % 2 ^ 32) next) h (Some h.core)
+  jumps op rel next h = goes_to (cond (host_row op (host_values (choice_at h.choices 0) h.core 0 0)).holds ((next + rel) % 2 ^ 32) next) h (Some h.core)
 
   -- Linux gives a result in eax, and an error e as 2^32 - e.
-  abbrev pub after_given : ℕ → Given → Host → Host
-  after_given next (Gives result to_buffer) h = record {
+  abbrev pub after_host_call : ℕ → Given → Host → Host
+  after_host_call next (Gives result to_buffer) h = record {
     core = record h.core { regs = update h.core.regs eax result; bytes = put_block (h.core.regs ecx) to_buffer h.core.bytes };
     eip = next;
     choices = drop 1 h.choices;
   }
-  after_given next (Fails error) h = record {
+  after_host_call next (Fails error) h = record {
     core = record h.core { regs = update h.core.regs eax (2 ^ 32 - error) };
     eip = next;
     choices = drop 1 h.choices;
   }
 
-  abbrev pub asks : ListedCall → ℕ → Host → Outcome Host
-  asks call next h = Asks call (λ answer. after_given next (given call answer) h)
+  abbrev pub host_asks : ListedCall → ℕ → Host → Outcome Host
+  host_asks call next h = Asks call (λ answer. after_host_call next (given call answer) h)
 
   -- int 0x80: the number is in eax, the operands are in ebx, ecx, edx. 1 is exit and 252 exit_group, 3 read, 4 write,
   -- 6 close; every other number has error 38, ENOSYS. A buffer that isn't held ends the run.
-  abbrev pub system_call : ℕ → Host → Outcome Host
-  system_call next h =
+  abbrev pub host_system_call : ℕ → Host → Outcome Host
+  host_system_call next h =
       let number = h.core.regs eax in
       let fd = h.core.regs ebx in
       let buffer = h.core.regs ecx in
       let count = h.core.regs edx in
       cond (eqb number 1 || eqb number 252) (Ends (Exit fd)) (
-      cond (eqb number 3) (cond (each_byte rights.writable count buffer) (asks (Read fd count) next h) (Ends Outside)) (
-      cond (eqb number 4) (cond (each_byte rights.held count buffer) (asks (Write fd (block count buffer h.core.bytes)) next h) (Ends Outside)) (
-      cond (eqb number 6) (asks (Close fd) next h) (
-      Goes (after_given next (Fails 38) h)))))
+      cond (eqb number 3) (cond (each_byte rights.writable count buffer) (host_asks (Read fd count) next h) (Ends Outside)) (
+      cond (eqb number 4) (cond (each_byte rights.held count buffer) (host_asks (Write fd (block count buffer h.core.bytes)) next h) (Ends Outside)) (
+      cond (eqb number 6) (host_asks (Close fd) next h) (
+      Goes (after_host_call next (Fails 38) h)))))
 
   -- a jump to the address that an operand holds
   abbrev pub jumps_to : Option ℕ → Host → Outcome Host
@@ -234,7 +234,7 @@ module _ (rights : Rights) where
   -- whether a division faults on its operand, which is read before
   abbrev pub faults_on : Op → Choice → Core → Option ℕ → Bool
   faults_on op c core None = false
-  faults_on op c core (Some y) = (host_row op (values_of c core (core.regs eax) y)).faults
+  faults_on op c core (Some y) = (host_row op (host_values c core (core.regs eax) y)).faults
 
   -- a division that faults ends the run and changes nothing
   abbrev pub divides : Op → Operand → ℕ → Host → Outcome Host
@@ -246,19 +246,19 @@ module _ (rights : Rights) where
   unary_acts op on next h = plain (Unary op on) next h
 
   -- what the machine does with an op, where the next one stands at `next`
-  abbrev pub acts : Op → ℕ → Host → Outcome Host
-  acts (Unary op on) next h = unary_acts op on next h
-  acts (Jcc condition rel) next h = jumps (Jcc condition rel) rel next h
-  acts (Jmp rel) next h = jumps (Jmp rel) rel next h
-  acts (JmpTo to) next h = jumps_to (reads h.core (place_of 4 to h.core.regs)) h
-  acts Int80 next h = system_call next h
-  acts Int3 next h = Ends Trap
-  acts Ud2 next h = Ends Illegal
-  acts op next h = plain op next h
+  abbrev pub host_acts : Op → ℕ → Host → Outcome Host
+  host_acts (Unary op on) next h = unary_acts op on next h
+  host_acts (Jcc condition rel) next h = jumps (Jcc condition rel) rel next h
+  host_acts (Jmp rel) next h = jumps (Jmp rel) rel next h
+  host_acts (JmpTo to) next h = jumps_to (reads h.core (place_of 4 to h.core.regs)) h
+  host_acts Int80 next h = host_system_call next h
+  host_acts Int3 next h = Ends Trap
+  host_acts Ud2 next h = Ends Illegal
+  host_acts op next h = plain op next h
 
-  abbrev pub executes : Option Fetched → Host → Outcome Host
-  executes None h = Ends Illegal
-  executes (Some f) h = acts f.op ((h.eip + f.len) % 2 ^ 32) h
+  abbrev pub host_executes : Option Fetched → Host → Outcome Host
+  host_executes None h = Ends Illegal
+  host_executes (Some f) h = host_acts f.op ((h.eip + f.len) % 2 ^ 32) h
 
 -- the bytes from an address on to the end of the code, at most 12: the longest spelling has 11
 abbrev pub op_bytes : Code → ℕ → List ℕ
@@ -266,7 +266,7 @@ op_bytes code a = take 12 (drop (a - code.at) code.bytes)
 
 -- one step: the op at eip is fetched, read and executed
 abbrev pub host_step : Rights → Code → (List ℕ → Option Fetched) → Host → Outcome Host
-host_step rights code reading h = cond (is_code code h.eip) (executes rights (reading (op_bytes code h.eip)) h) (Ends Outside)
+host_step rights code reading h = cond (is_code code h.eip) (host_executes rights (reading (op_bytes code h.eip)) h) (Ends Outside)
 
 -- Choices 0 to 7 are the registers at the start, the flags of choice 8 the flags, and choice 9 + k is that of step k.
 abbrev pub host_start : Program → List Choice → Host

@@ -15,7 +15,7 @@ use Rattle.base_alu.specs.Tile.{tile as alu_tile}
 use Rattle.base_flow.specs.Tile.{tile as flow_tile}
 use Rattle.machines.specs.Memory.{rights_of, code_of}
 use Rattle.machines.specs.Readings.{Fetched, ReadsWords, ReadsOps}
-use Rattle.machines.specs.Guest.{behind, is_code_word, code_word, executes}
+use Rattle.machines.specs.Guest.{behind, is_code_word, word_at, guest_executes}
 use Rattle.machines.specs.Representation.{IsHomePage}
 use Rattle.symbolic_tiles.specs.Flow.{Fits, flow}
 use Rattle.base_alu.proofs.Tiles.{tiles_are_placeable, tiles_do_rows}
@@ -120,7 +120,7 @@ module _ (reading : ℕ → Option Instr) (ops : List ℕ → Option Fetched) (r
       by_test false e = (omega arith, (drop_ebx next, (stores_placeable 3 reg_3, tt), sym (ap (λ (b : Bool). cond b in_ebx no_registers) e)))
 
   -- a base tile of an addi
-  one_right : (w n word : ℕ) (steps : List PlanStep) → n < 2 ^ 16 → is_code_word (code_of program) w ≡ true → code_word (code_of program) w ≡ word → IsWordOf word (adds n) → AreRight (s reading ops) no_registers (behind w) steps → AreRight (s reading ops) no_registers w (one n ∷ steps)
+  one_right : (w n word : ℕ) (steps : List PlanStep) → n < 2 ^ 16 → is_code_word (code_of program) w ≡ true → word_at (code_of program) w ≡ word → IsWordOf word (adds n) → AreRight (s reading ops) no_registers (behind w) steps → AreRight (s reading ops) no_registers w (one n ∷ steps)
   one_right w n word steps small on is of right = (
     straight_tile (s reading ops) (programs_write_held program) (adds n) (straight_adds n small) w (word_at reading ops reads_words w word (adds n) on is of),
     tile_placeable n small,
@@ -158,7 +158,7 @@ module _ (reading : ℕ → Option Instr) (ops : List ℕ → Option Fetched) (r
     record {
       few = omega arith;
       fetched = word_at reading ops reads_words 0x1000C 0x4BFFFFF4 back refl refl word_4;
-      fits = λ g core choices at before. subst (λ (w : ℕ). Fits in_ebx area (rights_of program) core (executes (rights_of program) (Some back) g) (flow (narrow_rights translation) area (flow_tile back w in_ebx) None choices core)) at (flow_tiles_do_rows back in_ebx legal_back ebx_map (refl, tt) area (rights_of program) (narrow_rights translation) g core choices before);
+      fits = λ g core choices at before. subst (λ (w : ℕ). Fits in_ebx area (rights_of program) core (guest_executes (rights_of program) (Some back) g) (flow (narrow_rights translation) area (flow_tile back w in_ebx) None choices core)) at (flow_tiles_do_rows back in_ebx legal_back ebx_map (refl, tt) area (rights_of program) (narrow_rights translation) g core choices before);
     },
     All-from_recursion IsLaid (flow_tile back 0x1000C in_ebx) (tt, tt),
     tt,

@@ -9,7 +9,7 @@ use Rattle.ia_codec.specs.declared.op.Op.TheVariants.{Jmp}
 use Rattle.runs.specs.Machine.{Ends}
 use Rattle.machines.specs.Memory.{rights_of, code_of}
 use Rattle.machines.specs.Readings.{Fetched, ReadsWords, ReadsOps}
-use Rattle.machines.specs.Guest.{is_code_word, code_word, executes}
+use Rattle.machines.specs.Guest.{is_code_word, word_at, guest_executes}
 use Rattle.code_layout.specs.Code.{items_length}
 use Rattle.simulation.specs.Context.{SimulationContext, IsWordAt, IsOffCode, JumpsTo}
 use Rattle.laid_code.specs.Bytes.{HasBytes, RunsCode}
@@ -74,16 +74,16 @@ module _ (reading : ℕ → Option Instr) (ops : List ℕ → Option Fetched) wh
   s = context_of interface target reading ops program translation first area entries
 
   -- a word at an address of the code
-  pub word_at : ReadsWords reading → (w n : ℕ) (i : Instr) → is_code_word (code_of program) w ≡ true → code_word (code_of program) w ≡ n → IsWordOf n i → IsWordAt s w (Some i)
+  pub word_at : ReadsWords reading → (w n : ℕ) (i : Instr) → is_code_word (code_of program) w ≡ true → word_at (code_of program) w ≡ n → IsWordOf n i → IsWordAt s w (Some i)
   word_at reads w n i on is word g at =
-      ap (λ (a : ℕ). cond (is_code_word (code_of program) a) (executes (rights_of program) (reading (code_word (code_of program) a)) g) (Ends Outside)) at
-      ∙ ap (λ (b : Bool). cond b (executes (rights_of program) (reading (code_word (code_of program) w)) g) (Ends Outside)) on
-      ∙ ap (λ (o : Option Instr). executes (rights_of program) o g) (ap reading is ∙ reads.only n i word)
+      ap (λ (a : ℕ). cond (is_code_word (code_of program) a) (guest_executes (rights_of program) (reading (word_at (code_of program) a)) g) (Ends Outside)) at
+      ∙ ap (λ (b : Bool). cond b (guest_executes (rights_of program) (reading (word_at (code_of program) w)) g) (Ends Outside)) on
+      ∙ ap (λ (o : Option Instr). guest_executes (rights_of program) o g) (ap reading is ∙ reads.only n i word)
 
   pub off_code : (w : ℕ) → is_code_word (code_of program) w ≡ false → IsOffCode s w
   off_code w off g at =
-      ap (λ (a : ℕ). cond (is_code_word (code_of program) a) (executes (rights_of program) (reading (code_word (code_of program) a)) g) (Ends Outside)) at
-      ∙ ap (λ (b : Bool). cond b (executes (rights_of program) (reading (code_word (code_of program) w)) g) (Ends Outside)) off
+      ap (λ (a : ℕ). cond (is_code_word (code_of program) a) (guest_executes (rights_of program) (reading (word_at (code_of program) a)) g) (Ends Outside)) at
+      ∙ ap (λ (b : Bool). cond b (guest_executes (rights_of program) (reading (word_at (code_of program) w)) g) (Ends Outside)) off
 
   pub low_target : (w : ℕ) → target w < 2 ^ 32
   low_target w = by_tests (eqb w 0x10000) (eqb w 0x10004) (eqb w 0x10008) (eqb w 0x1000C)

@@ -3,7 +3,7 @@ use Rattle.std.proofs.Common.{◌≡◌, ℕ, zero, suc, ◌+◌, ◌*◌, ◌^�
 use Rattle.std.proofs.lemmas.Bool.Decides.{nat_tests}
 use Rattle.ppc_isa.specs.Legal.{IsLegal, IsWordOf}
 use Rattle.machines.specs.Memory.{code_of}
-use Rattle.machines.specs.Guest.{is_code_word, code_word}
+use Rattle.machines.specs.Guest.{is_code_word, word_at}
 use Rattle.code_words.specs.Words.{HasWords}
 use Rattle.plan_example.specs.Example.{program, words, adds, back}
 
@@ -36,7 +36,7 @@ here (suc (suc zero)) lt = refl
 here (suc (suc (suc zero))) lt = refl
 here (suc (suc (suc (suc k)))) lt = absurd (omega arith)
 
-each : (k : ℕ) → k < 4 → code_word (code_of program) (0x10000 + 4 * k) ≡ slice_index words k
+each : (k : ℕ) → k < 4 → word_at (code_of program) (0x10000 + 4 * k) ≡ slice_index words k
 each zero lt = refl
 each (suc zero) lt = refl
 each (suc (suc zero)) lt = refl

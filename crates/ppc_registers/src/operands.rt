@@ -2,7 +2,7 @@
 
 ghost use Rattle.std.specs.Prelude.{◌≡◌, ◌<◌, ◌^◌, ℕ};
 ghost use Rattle.ppc_isa.specs.Legal.{IsLegal};
-ghost use Rattle.machines.specs.Guest.{immediate_word, logic_word, compare_word, rotate_register, value_a, value_b, value_s, values_of};
+ghost use Rattle.machines.specs.Guest.{immediate_word, logic_word, compare_word, rotate_register, value_a, value_b, value_s, guest_values};
 ghost use Rattle.ppc_registers.specs.Held.{numbers, locs_of};
 
 use crate::Registers;
@@ -184,7 +184,7 @@ impl Registers {
     /// The old values that a legal instruction reads, and the number that it loaded.
     pub fn values(&self, instr: &Instr, loaded: u32) -> GuestIn<Plain>
         requires { IsLegal instr.now }
-        ensures { numbers result ≡ values_of instr.now loaded (locs_of self.now) }
+        ensures { numbers result ≡ guest_values instr.now loaded (locs_of self.now) }
     {
         GuestIn {
             a: self.value_a(instr),

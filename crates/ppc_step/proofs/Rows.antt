@@ -21,7 +21,7 @@ use Rattle.ppc_isa.specs.declared.instr.LoadIndexedUpdateOp.TheVariants.{Lwzux, 
 use Rattle.ppc_isa.specs.declared.instr.StoreIndexedUpdateOp.TheVariants.{Stwux, Stbux, Sthux}
 use Rattle.ppc_isa.specs.Effect.{GuestValues, Effect, LoadAccess}
 use Rattle.ppc_isa.specs.Rows.{guest_row}
-use Rattle.machines.specs.Guest.{Guest, values_of, loaded_in, effect_of}
+use Rattle.machines.specs.Guest.{Guest, guest_values, loaded_in, effect_of}
 use Rattle.std.specs.Prelude.{if◌then◌else◌}
 use Rattle.space.specs.declared.program.Program.{Program}
 use Rattle.machines.specs.Memory.{load_big, each_byte, rights_of}
@@ -246,10 +246,10 @@ no_load (BranchRegister op bo bi link) store = refl
 
 -- the effect before anything is loaded
 abbrev pub first : Instr → Guest → Effect
-first i g = guest_row i (values_of i 0 g.locs)
+first i g = guest_row i (guest_values i 0 g.locs)
 
 pub effect_is : (i : Instr) (g : Guest) → is_load i ≡ false → first i g ≡ effect_of i g
-effect_is i g other = sym (unloaded i (values_of i 0 g.locs) (loaded_in (first i g) g.bytes) other)
+effect_is i g other = sym (unloaded i (guest_values i 0 g.locs) (loaded_in (first i g) g.bytes) other)
 
 pub short : (i : Instr) (v : GuestValues) → is_load i ≡ true → (guest_row i v).width ≤ 4
 short i v load = (reaches i v 0 load).short
@@ -265,7 +265,7 @@ some_of false m n e = absurd cc
 
 module _ (p : Program) (i : Instr) (g : Guest) (a : Effect) (load : is_load i ≡ true) (is : a ≡ first i g) where
   same : SameAccess (first i g) (effect_of i g)
-  same = reaches i (values_of i 0 g.locs) (loaded_in (first i g) g.bytes) load
+  same = reaches i (guest_values i 0 g.locs) (loaded_in (first i g) g.bytes) load
 
   held_is : each_byte (rights_of p).held a.width a.address ≡ each_byte (rights_of p).held (effect_of i g).width (effect_of i g).address
   held_is = rw (is, same.width, same.address) refl
@@ -275,9 +275,9 @@ module _ (p : Program) (i : Instr) (g : Guest) (a : Effect) (load : is_load i �
   none_loaded none = sym held_is ∙ none_of (each_byte (rights_of p).held a.width a.address) (load_big a.width a.address g.bytes) none
 
   pub some_loaded : (n : ℕ) (made : Effect) → Some n ≡ (if each_byte (rights_of p).held a.width a.address then Some (load_big a.width a.address g.bytes) else None)
-      → made ≡ guest_row i (values_of i n g.locs)
+      → made ≡ guest_row i (guest_values i n g.locs)
       → (each_byte (rights_of p).held (effect_of i g).width (effect_of i g).address ≡ true) × (made ≡ effect_of i g)
   some_loaded n made some made_is =
       let s = some_of (each_byte (rights_of p).held a.width a.address) n (load_big a.width a.address g.bytes) some in
       let number : load_big a.width a.address g.bytes ≡ loaded_in (first i g) g.bytes = rw (is, same.kind) refl in
-      (sym held_is ∙ s.0, made_is ∙ ap (λ k. guest_row i (values_of i k g.locs)) (s.1 ∙ number))
+      (sym held_is ∙ s.0, made_is ∙ ap (λ k. guest_row i (guest_values i k g.locs)) (s.1 ∙ number))

@@ -1,7 +1,7 @@
 -- States whose parts change.
 use Rattle.std.proofs.Common.{◌≡◌, ℕ, List, ◌+◌, ◌%◌, ◌^◌, Bool, true, false, cond, refl, sym, ◌∙◌, ap, subst}
 use Rattle.space.specs.declared.program.Program.{Program}
-use Rattle.machines.specs.Guest.{Guest, onward, loads, stores, behind, branches, linked, branch_target, acts}
+use Rattle.machines.specs.Guest.{Guest, at_next, load_outcome, store_outcome, behind, branches, linked, branch_target, guest_acts}
 use Rattle.access.specs.Kept.{Keeps}
 use Rattle.space.specs.Memory.{Memory}
 use Rattle.space.specs.declared.call.End.TheVariants.{Outside}
@@ -33,18 +33,18 @@ with_memory p s g m bytes is keeps = record { registers = is.registers; next = i
 -- a load, and a store, each of whose bytes is inside, and one that isn't
 module _ (p : Program) (new : State) (g : Guest) (e : Effect) where
   pub load_goes : (event : Event) (locs : ℕ → ℕ) → event ≡ Went → each_byte (rights_of p).held e.width e.address ≡ true
-      → IsState p new (onward locs g) → Leads p event new (loads (rights_of p) locs e g)
+      → IsState p new (at_next locs g) → Leads p event new (load_outcome (rights_of p) locs e g)
   load_goes event locs went inside is = rw (went, inside) is
 
-  pub load_stops : (locs : ℕ → ℕ) → each_byte (rights_of p).held e.width e.address ≡ false → Leads p (Ended Outside) new (loads (rights_of p) locs e g)
+  pub load_stops : (locs : ℕ → ℕ) → each_byte (rights_of p).held e.width e.address ≡ false → Leads p (Ended Outside) new (load_outcome (rights_of p) locs e g)
   load_stops locs outside = rw outside refl
 
   pub store_goes : (event : Event) (bytes locs : ℕ → ℕ) → event ≡ Went → each_byte (rights_of p).writable e.width e.address ≡ true
-      → IsState p new (record (onward locs g) { bytes = bytes }) → Leads p event new (stores (rights_of p) bytes locs e g)
+      → IsState p new (record (at_next locs g) { bytes = bytes }) → Leads p event new (store_outcome (rights_of p) bytes locs e g)
   store_goes event bytes locs went inside is = rw (went, inside) is
 
   pub store_stops : (bytes locs : ℕ → ℕ) → each_byte (rights_of p).writable e.width e.address ≡ false
-      → Leads p (Ended Outside) new (stores (rights_of p) bytes locs e g)
+      → Leads p (Ended Outside) new (store_outcome (rights_of p) bytes locs e g)
   store_stops bytes locs outside = rw outside refl
 
 -- a branch that is taken or not
@@ -64,10 +64,10 @@ pub target_is : (len field : ℕ) (absolute : Bool) (at next d t : ℕ) → at �
 target_is len field absolute at next d t at_is d_is t_is =
     t_is ∙ ap (λ x. cond absolute x ((at + x) % 2 ^ 32)) d_is ∙ ap (λ x. cond absolute (branch_target len field true 0) ((x + branch_target len field true 0) % 2 ^ 32)) at_is
 
--- the instruction that acts
-pub acted : (p : Program) (g : Guest) (i j : Instr) (e : Effect) (event : Event) (new : State) → i ≡ j → Leads p event new (acts (rights_of p) j e g)
-    → Leads p event new (acts (rights_of p) i e g)
-acted p g i j e event new same is = subst (λ k. Leads p event new (acts (rights_of p) k e g)) (sym same) is
+-- the instruction that guest_acts
+pub acted : (p : Program) (g : Guest) (i j : Instr) (e : Effect) (event : Event) (new : State) → i ≡ j → Leads p event new (guest_acts (rights_of p) j e g)
+    → Leads p event new (guest_acts (rights_of p) i e g)
+acted p g i j e event new same is = subst (λ k. Leads p event new (guest_acts (rights_of p) k e g)) (sym same) is
 
 pub went : (p : Program) (event : Event) (new : State) (h : Guest) → event ≡ Went → IsState p new h → Leads p event new (Goes h)
 went p event new h e is = rw e is

@@ -10,7 +10,7 @@ use Rattle.ppc_isa.specs.declared.instr.Instr.{Instr}
 use Rattle.ppc_isa.specs.Legal.{IsWordOf}
 use Rattle.machines.specs.Memory.{rights_of, code_of}
 use Rattle.machines.specs.Readings.{ReadsWords}
-use Rattle.machines.specs.Guest.{Guest, is_code_word, code_word, effect_of, acts, guest_machine}
+use Rattle.machines.specs.Guest.{Guest, is_code_word, word_at, effect_of, guest_acts, guest_machine}
 use Rattle.ppc_step.specs.declared.state.State.{State}
 use Rattle.machine_calls.specs.declared.phase.Phase.{Phase}
 use Rattle.machine_calls.specs.declared.phase.Phase.TheVariants.{Going, Waiting, Over}
@@ -26,11 +26,11 @@ module _ (p : Program) (words : ℕ → Option Instr) (reads : ReadsWords words)
     here : is_code_word (code_of p) g.next ≡ true
     here = subst (λ a. is_code_word (code_of p) a ≡ true) is.next (word p g.bytes s.memory s.next is.memory w some).0
 
-    read : words (code_word (code_of p) g.next) ≡ words w
-    read = ap words (subst (λ a. code_word (code_of p) a ≡ w) is.next (sym (word p g.bytes s.memory s.next is.memory w some).1))
+    read : words (word_at (code_of p) g.next) ≡ words w
+    read = ap words (subst (λ a. word_at (code_of p) a ≡ w) is.next (sym (word p g.bytes s.memory s.next is.memory w some).1))
 
     -- a legal word is executed
-    pub executed : (i : Instr) → IsWordOf w i → Leads p event new (acts (rights_of p) i (effect_of i g) g) → Leads p event new (guest_machine words p g)
+    pub executed : (i : Instr) → IsWordOf w i → Leads p event new (guest_acts (rights_of p) i (effect_of i g) g) → Leads p event new (guest_machine words p g)
     executed i legal leads = rw (here, read ∙ reads.only w i legal) leads
 
     none_read : (o : Option Instr) → words w ≡ o → ((i : Instr) → IsWordOf w i → None ≡ Some i) → words w ≡ None

@@ -6,7 +6,7 @@ use Rattle.space.specs.declared.call.End.TheVariants.{Outside}
 use Rattle.space.specs.declared.program.Program.{Program}
 use Rattle.space.specs.Reports.{ListedCall, AnswerValue, given}
 use Rattle.runs.specs.Machine.{Outcome, Ends}
-use Rattle.machines.specs.Guest.{Guest, after_given, asks}
+use Rattle.machines.specs.Guest.{Guest, after_guest_call, guest_asks}
 use Rattle.machine_calls.specs.Calls.{listed_as, listed_call, is_buffer}
 use Rattle.ppc_step.specs.declared.state.State.{State}
 use Rattle.ppc_step.specs.Shown.{IsState}
@@ -14,7 +14,7 @@ use Rattle.ppc_step.specs.Shown.{IsState}
 -- sc for a call of a kind, whose operands are in r3, r4 and r5
 abbrev pub asks_for : Program → CallKind → Guest → Outcome Guest
 asks_for p k g =
-    cond (is_buffer p k (g.locs 4) (g.locs 5)) (asks (listed_as k (g.locs 3) (g.locs 4) (g.locs 5) g.bytes) g) (Ends Outside)
+    cond (is_buffer p k (g.locs 4) (g.locs 5)) (guest_asks (listed_as k (g.locs 3) (g.locs 4) (g.locs 5) g.bytes) g) (Ends Outside)
 
 -- The call c was made from a state of the guest, and with its answer the guest goes on as `next` says.
 pub record IsAsking (p : Program) (s : State) (c : Call) (call : ListedCall) (next : AnswerValue → Guest) : Type 0 where
@@ -23,4 +23,4 @@ pub record IsAsking (p : Program) (s : State) (c : Call) (call : ListedCall) (ne
   pub buffer : g.locs 4 ≡ c.at
   pub count : g.locs 5 ≡ c.count
   pub lists : call ≡ listed_call c g.bytes
-  pub goes_on : (answer : AnswerValue) → next answer ≡ after_given (given call answer) g
+  pub goes_on : (answer : AnswerValue) → next answer ≡ after_guest_call (given call answer) g

@@ -1,10 +1,10 @@
-//! Loads and stores.
+//! Loads and store_outcome.
 
 ghost use Rattle.std.specs.Prelude.{◌≡◌, ◌<◌, ◌-◌, ◌*◌, true, false};
 ghost use Rattle.space.specs.declared.program.Program.{Program};
 ghost use Rattle.ppc_isa.specs.Legal.{IsLegal};
 ghost use Rattle.machines.specs.Memory.{update, each_byte, load_big as big_number, store_big as big_stored, rights_of};
-ghost use Rattle.machines.specs.Guest.{Guest, effect_of, loads, stores, put_loaded, store_registers};
+ghost use Rattle.machines.specs.Guest.{Guest, effect_of, load_outcome, store_outcome, put_loaded, store_registers};
 ghost use Rattle.ppc_step.specs.Shown.{IsState, is_load, is_store};
 ghost use Rattle.ppc_step.specs.Steps.{Leads, IsDone};
 
@@ -19,7 +19,7 @@ impl State {
         requires legal { IsLegal instr.now }
         requires load { is_load instr.now ≡ true }
         requires register { d < 32 }
-        ensures leads { (p : Program) (g : Guest) → IsState p self.old g → Leads p result self.new (loads (rights_of p) (update g.locs d (effect_of instr.now g).d) (effect_of instr.now g) g) }
+        ensures leads { (p : Program) (g : Guest) → IsState p self.old g → Leads p result self.new (load_outcome (rights_of p) (update g.locs d (effect_of instr.now g).d) (effect_of instr.now g) g) }
         ensures done { IsDone result self.old self.new }
     {
         let Some(effect) = self.loaded(instr) else {
@@ -36,7 +36,7 @@ impl State {
         requires d_in { d < 32 }
         requires a_in { a < 32 }
         ensures leads { (p : Program) (g : Guest) → IsState p self.old g
-            → Leads p result self.new (loads (rights_of p) (update (update g.locs d (effect_of instr.now g).d) a (effect_of instr.now g).a) (effect_of instr.now g) g) }
+            → Leads p result self.new (load_outcome (rights_of p) (update (update g.locs d (effect_of instr.now g).d) a (effect_of instr.now g).a) (effect_of instr.now g) g) }
         ensures done { IsDone result self.old self.new }
     {
         let Some(effect) = self.loaded(instr) else {
@@ -52,7 +52,7 @@ impl State {
         requires legal { IsLegal instr.now }
         requires store { is_store instr.now ≡ true }
         ensures leads { (p : Program) (g : Guest) → IsState p self.old g
-            → Leads p result self.new (stores (rights_of p) (big_stored (effect_of instr.now g).width (effect_of instr.now g).address (effect_of instr.now g).stored g.bytes) g.locs (effect_of instr.now g) g) }
+            → Leads p result self.new (store_outcome (rights_of p) (big_stored (effect_of instr.now g).width (effect_of instr.now g).address (effect_of instr.now g).stored g.bytes) g.locs (effect_of instr.now g) g) }
         ensures done { IsDone result self.old self.new }
     {
         let effect = self.effect(instr);
@@ -73,7 +73,7 @@ impl State {
         requires store { is_store instr.now ≡ true }
         requires register { a < 32 }
         ensures leads { (p : Program) (g : Guest) → IsState p self.old g
-            → Leads p result self.new (stores (rights_of p) (big_stored (effect_of instr.now g).width (effect_of instr.now g).address (effect_of instr.now g).stored g.bytes) (update g.locs a (effect_of instr.now g).a) (effect_of instr.now g) g) }
+            → Leads p result self.new (store_outcome (rights_of p) (big_stored (effect_of instr.now g).width (effect_of instr.now g).address (effect_of instr.now g).stored g.bytes) (update g.locs a (effect_of instr.now g).a) (effect_of instr.now g) g) }
         ensures done { IsDone result self.old self.new }
     {
         let effect = self.effect(instr);
@@ -96,7 +96,7 @@ impl State {
         requires register { d < 32 }
         ensures leads { (p : Program) (g : Guest) → IsState p self.old g
             → (effect_of instr.now g).width ≡ 4 * (32 - d)
-            → Leads p result self.new (loads (rights_of p) (put_loaded d (effect_of instr.now g).address g.bytes g.locs) (effect_of instr.now g) g) }
+            → Leads p result self.new (load_outcome (rights_of p) (put_loaded d (effect_of instr.now g).address g.bytes g.locs) (effect_of instr.now g) g) }
         ensures done { IsDone result self.old self.new }
     {
         let effect = self.effect(instr);
@@ -114,7 +114,7 @@ impl State {
         requires register { s < 32 }
         ensures leads { (p : Program) (g : Guest) → IsState p self.old g
             → (effect_of instr.now g).width ≡ 4 * (32 - s)
-            → Leads p result self.new (stores (rights_of p) (store_registers (32 - s) s (effect_of instr.now g).address g.locs g.bytes) g.locs (effect_of instr.now g) g) }
+            → Leads p result self.new (store_outcome (rights_of p) (store_registers (32 - s) s (effect_of instr.now g).address g.locs g.bytes) g.locs (effect_of instr.now g) g) }
         ensures done { IsDone result self.old self.new }
     {
         let effect = self.effect(instr);

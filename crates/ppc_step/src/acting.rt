@@ -6,7 +6,7 @@ ghost use Rattle.ppc_isa.specs.declared.instr.Instr.{Instr as Instruction};
 ghost use Rattle.ppc_isa.specs.Legal.{IsLegal};
 ghost use Rattle.machines.specs.Memory.{rights_of};
 ghost use Rattle.machines.specs.Readings.{ReadsWords};
-ghost use Rattle.machines.specs.Guest.{Guest, effect_of, acts, guest_machine};
+ghost use Rattle.machines.specs.Guest.{Guest, effect_of, guest_acts, guest_machine};
 ghost use Rattle.ppc_step.specs.Shown.{IsState};
 ghost use Rattle.ppc_step.specs.Steps.{IsDone, Leads};
 
@@ -22,7 +22,7 @@ impl State {
     // What the machine does with a legal instruction.
     fn act(&mut self, instr: &Instr) -> Event
         requires { IsLegal instr.now }
-        ensures leads { (p : Program) (g : Guest) → IsState p self.old g → Leads p result self.new (acts (rights_of p) instr.now (effect_of instr.now g) g) }
+        ensures leads { (p : Program) (g : Guest) → IsState p self.old g → Leads p result self.new (guest_acts (rights_of p) instr.now (effect_of instr.now g) g) }
         ensures done { IsDone result self.old self.new }
     {
         match *instr {

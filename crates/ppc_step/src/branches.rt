@@ -6,7 +6,7 @@ ghost use Rattle.space.specs.declared.program.Program.{Program};
 ghost use Rattle.runs.specs.Machine.{Goes, Ends};
 ghost use Rattle.ppc_isa.specs.Legal.{IsLegal};
 ghost use Rattle.machines.specs.Memory.{update};
-ghost use Rattle.machines.specs.Guest.{Guest, effect_of, onward, branches, linked, branch_target, register_target};
+ghost use Rattle.machines.specs.Guest.{Guest, effect_of, at_next, branches, linked, branch_target, register_target};
 ghost use Rattle.ppc_registers.specs.Held.{locs_of};
 ghost use Rattle.ppc_step.specs.Shown.{IsState, is_load};
 ghost use Rattle.ppc_step.specs.Steps.{Leads, IsDone};
@@ -136,7 +136,7 @@ impl State {
     pub(crate) fn trap(&mut self, instr: &Instr) -> Event
         requires legal { IsLegal instr.now }
         requires other { is_load instr.now ≡ false }
-        ensures leads { (p : Program) (g : Guest) → IsState p self.old g → Leads p result self.new (cond (effect_of instr.now g).taken (Ends Trapped) (Goes (onward g.locs g))) }
+        ensures leads { (p : Program) (g : Guest) → IsState p self.old g → Leads p result self.new (cond (effect_of instr.now g).taken (Ends Trapped) (Goes (at_next g.locs g))) }
         ensures done { IsDone result self.old self.new }
     {
         if self.effect(instr).taken {

@@ -4,7 +4,7 @@ ghost use Rattle.std.specs.Prelude.{◌≡◌, []};
 ghost use Rattle.space.specs.declared.program.Program.{Program};
 ghost use Rattle.space.specs.Reports.{ListedCall, AnswerValue, Gives, Fails, answer_value};
 ghost use Rattle.machines.specs.Memory.{rights_of};
-ghost use Rattle.machines.specs.Guest.{Guest, after_given, system_call};
+ghost use Rattle.machines.specs.Guest.{Guest, after_guest_call, guest_system_call};
 ghost use Rattle.machine_calls.specs.Calls.{HasBuffer};
 ghost use Rattle.ppc_step.specs.Shown.{IsState};
 ghost use Rattle.ppc_step.specs.Calls.{IsAsking, asks_for};
@@ -36,7 +36,7 @@ impl State {
     // A call's result.
     fn succeed(&mut self, given: u32) -> Event
         ensures event { result ≡ Event.Went }
-        ensures state { (p : Program) (g : Guest) → IsState p self.old g → IsState p self.new (after_given (Gives given []) g) }
+        ensures state { (p : Program) (g : Guest) → IsState p self.old g → IsState p self.new (after_guest_call (Gives given []) g) }
     {
         self.registers.put_gpr(3, given);
         self.registers.clear_so();
@@ -46,7 +46,7 @@ impl State {
     // A call's error.
     fn fail(&mut self, error: u16) -> Event
         ensures event { result ≡ Event.Went }
-        ensures state { (p : Program) (g : Guest) → IsState p self.old g → IsState p self.new (after_given (Fails error) g) }
+        ensures state { (p : Program) (g : Guest) → IsState p self.old g → IsState p self.new (after_guest_call (Fails error) g) }
     {
         self.registers.put_gpr(3, u32::from(error));
         self.registers.set_so();
@@ -54,8 +54,8 @@ impl State {
     }
 
     /// sc.
-    pub(crate) fn system_call(&mut self) -> Event
-        ensures leads { (p : Program) (g : Guest) → IsState p self.old g → Leads p result self.new (system_call (rights_of p) g) }
+    pub(crate) fn guest_system_call(&mut self) -> Event
+        ensures leads { (p : Program) (g : Guest) → IsState p self.old g → Leads p result self.new (guest_system_call (rights_of p) g) }
         ensures done { IsDone result self.old self.new }
     {
         match self.registers.gpr(0) {

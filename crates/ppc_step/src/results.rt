@@ -3,7 +3,7 @@
 ghost use Rattle.std.specs.Prelude.{◌≡◌, ◌<◌, ℕ, false};
 ghost use Rattle.space.specs.declared.program.Program.{Program};
 ghost use Rattle.ppc_isa.specs.Legal.{IsLegal};
-ghost use Rattle.machines.specs.Guest.{Guest, effect_of, onward, results, put_cr, put_special};
+ghost use Rattle.machines.specs.Guest.{Guest, effect_of, at_next, results, put_cr, put_special};
 ghost use Rattle.ppc_registers.specs.Held.{locs_of};
 ghost use Rattle.ppc_step.specs.Shown.{IsState, told, is_load};
 
@@ -44,7 +44,7 @@ impl State {
         requires register { d < 32 }
         ensures event { result ≡ Event.Went }
         ensures state { (p : Program) (g : Guest) → IsState p self.old g
-            → IsState p self.new (onward (results form.carries form.records d (effect_of instr.now g).d (effect_of instr.now g) g.locs) g) }
+            → IsState p self.new (at_next (results form.carries form.records d (effect_of instr.now g).d (effect_of instr.now g) g.locs) g) }
     {
         let effect = self.effect(instr);
         put_results(&mut self.registers, form, d, effect.d, &effect);
@@ -58,7 +58,7 @@ impl State {
         requires register { a < 32 }
         ensures event { result ≡ Event.Went }
         ensures state { (p : Program) (g : Guest) → IsState p self.old g
-            → IsState p self.new (onward (results form.carries form.records a (effect_of instr.now g).a (effect_of instr.now g) g.locs) g) }
+            → IsState p self.new (at_next (results form.carries form.records a (effect_of instr.now g).a (effect_of instr.now g) g.locs) g) }
     {
         let effect = self.effect(instr);
         put_results(&mut self.registers, form, a, effect.a, &effect);
@@ -70,7 +70,7 @@ impl State {
         requires legal { IsLegal instr.now }
         requires other { is_load instr.now ≡ false }
         ensures event { result ≡ Event.Went }
-        ensures state { (p : Program) (g : Guest) → IsState p self.old g → IsState p self.new (onward (put_cr (effect_of instr.now g).cr g.locs) g) }
+        ensures state { (p : Program) (g : Guest) → IsState p self.old g → IsState p self.new (at_next (put_cr (effect_of instr.now g).cr g.locs) g) }
     {
         let effect = self.effect(instr);
         self.registers.put_cr(true, effect.cr);
@@ -82,7 +82,7 @@ impl State {
         requires legal { IsLegal instr.now }
         requires other { is_load instr.now ≡ false }
         ensures event { result ≡ Event.Went }
-        ensures state { (p : Program) (g : Guest) → IsState p self.old g → IsState p self.new (onward (put_special spr (effect_of instr.now g) g.locs) g) }
+        ensures state { (p : Program) (g : Guest) → IsState p self.old g → IsState p self.new (at_next (put_special spr (effect_of instr.now g) g.locs) g) }
     {
         let effect = self.effect(instr);
         put_special(&mut self.registers, spr, &effect);

@@ -2,7 +2,7 @@
 
 ghost use Rattle.std.specs.Prelude.{◌≡◌};
 ghost use Rattle.space.specs.declared.program.Program.{Program};
-ghost use Rattle.machines.specs.Guest.{Guest, onward, behind};
+ghost use Rattle.machines.specs.Guest.{Guest, at_next, behind};
 ghost use Rattle.ppc_step.specs.Shown.{IsState};
 
 use ppc_registers::Registers;
@@ -30,7 +30,7 @@ impl State {
     /// Goes on behind the instruction.
     pub(crate) fn go_on(&mut self) -> Event
         ensures event { result ≡ Event.Went }
-        ensures state { (p : Program) (g : Guest) → IsState p self.old g → IsState p self.new (onward g.locs g) }
+        ensures state { (p : Program) (g : Guest) → IsState p self.old g → IsState p self.new (at_next g.locs g) }
     {
         self.next = self.behind();
         Event::Went

@@ -2,7 +2,7 @@
 use Rattle.std.proofs.Common.{◌≡◌, ◌≢◌, ℕ, ◌⊎◌, List, [], ◌∷◌, Contains, sym, ◌∙◌, subst, inl, inr, arith}
 use Rattle.runs.specs.Machine.{Outcome, Goes, Asks, Ends}
 use Rattle.ppc_isa.specs.Locations.{locations_written}
-use Rattle.machines.specs.Guest.{Guest, effect_of, acts}
+use Rattle.machines.specs.Guest.{Guest, effect_of, guest_acts}
 use Rattle.row_laws.specs.Laws.{Next, Alike, AreSame, AgreeBut, KeepsAgreement}
 use Rattle.row_laws.proofs.Lists.{Lacks, none_in, first_in, later_in, first_or_later}
 use Rattle.row_laws.proofs.Changes.{changes}
@@ -36,8 +36,8 @@ agreement i rights g h x legal fg fh same lt e = by_place (in_or_not written x)
     written : List ℕ
     written = locations_written i
 
-    by_place : Contains written x ⊎ Lacks written x → Alike (λ a b. a.locs x ≡ b.locs x) (acts rights i (effect_of i g) g) (acts rights i (effect_of i h) h)
-    by_place (inl c) = together (AreSame written) (λ a b. a.locs x ≡ b.locs x) (λ a. AgreeBut written a g) (λ b. AgreeBut written b h) (acts rights i (effect_of i g) g) (acts rights i (effect_of i h) h)
+    by_place : Contains written x ⊎ Lacks written x → Alike (λ a b. a.locs x ≡ b.locs x) (guest_acts rights i (effect_of i g) g) (guest_acts rights i (effect_of i h) h)
+    by_place (inl c) = together (AreSame written) (λ a b. a.locs x ≡ b.locs x) (λ a. AgreeBut written a g) (λ b. AgreeBut written b h) (guest_acts rights i (effect_of i g) g) (guest_acts rights i (effect_of i h) h)
         (λ a b r p q. r.locs x c) (depends i rights g h legal fg fh same) (changes i rights g legal fg) (changes i rights h legal fh)
-    by_place (inr out) = together (AreSame written) (λ a b. a.locs x ≡ b.locs x) (λ a. AgreeBut written a g) (λ b. AgreeBut written b h) (acts rights i (effect_of i g) g) (acts rights i (effect_of i h) h)
+    by_place (inr out) = together (AreSame written) (λ a b. a.locs x ≡ b.locs x) (λ a. AgreeBut written a g) (λ b. AgreeBut written b h) (guest_acts rights i (effect_of i g) g) (guest_acts rights i (effect_of i h) h)
         (λ a b r p q. p x lt out ∙ e ∙ sym (q x lt out)) (depends i rights g h legal fg fh same) (changes i rights g legal fg) (changes i rights h legal fh)

@@ -13,7 +13,7 @@ use Rattle.ppc_isa.specs.RotateRows.{rotate}
 use Rattle.ppc_isa.specs.LogicRows.{logic_immediate}
 use Rattle.ppc_isa.specs.Rows.{guest_row}
 use Rattle.machines.specs.Memory.{update, store_big, each_byte, Rights}
-use Rattle.machines.specs.Guest.{Guest, values_of, loaded_in, effect_of, onward, loads, stores, put_cr, put_loaded, store_registers, linked}
+use Rattle.machines.specs.Guest.{Guest, guest_values, loaded_in, effect_of, at_next, load_outcome, store_outcome, put_cr, put_loaded, store_registers, linked}
 use Rattle.row_laws.specs.Laws.{Next, AgreeBut, ChangesItsWritesAlone}
 use Rattle.row_laws.proofs.Instructions.{Instr, Immediate, LogicImmediate, Load, Store, LoadUpdate, StoreUpdate, Multiple, TrapImmediate, CompareImmediate, Rotate, Branch, BranchConditional, SystemCall, Arithmetic, ArithmeticUnary, Logic, ShiftImmediate, LogicUnary, Compare, Trap, MoveFromCr, MoveToCr, MoveFromSpr, MoveToSpr, Sync, LoadIndexed, StoreIndexed, LoadIndexedUpdate, StoreIndexedUpdate, MoveCrField, CrLogic, Isync, BranchRegister, Lmw, Stmw, CompareImmediateOp, Cmpi, Cmpli, CompareOp, Cmp, Cmpl}
 use Rattle.row_laws.proofs.Lists.{Lacks, not_first, not_later, not_left, not_right}
@@ -22,20 +22,20 @@ use Rattle.row_laws.proofs.Kept.{next_cond, update_other, field_alone, bit_alone
 
 -- what an instruction reads in a state
 abbrev pub values_in : Instr → Guest → GuestValues
-values_in i g = values_of i (loaded_in (guest_row i (values_of i 0 g.locs)) g.bytes) g.locs
+values_in i g = guest_values i (loaded_in (guest_row i (guest_values i 0 g.locs)) g.bytes) g.locs
 
 stands : (i : Instr) (g : Guest) → Stands (values_in i g) g.locs
 stands i g = record { cr = refl; xer = refl }
 
 -- an access that leaves some locations, or goes outside
-loading : (written : List ℕ) (rights : Rights) (locs : ℕ → ℕ) (e : Effect) (g : Guest) → ((x : ℕ) → Lacks written x → locs x ≡ g.locs x) → Next (λ h. AgreeBut written h g) (loads rights locs e g)
-loading written rights locs e g kept = next_cond (λ h. AgreeBut written h g) (each_byte rights.held e.width e.address) (Goes (onward locs g)) (Ends Outside) (λ x lt l. kept x l) tt
+loading : (written : List ℕ) (rights : Rights) (locs : ℕ → ℕ) (e : Effect) (g : Guest) → ((x : ℕ) → Lacks written x → locs x ≡ g.locs x) → Next (λ h. AgreeBut written h g) (load_outcome rights locs e g)
+loading written rights locs e g kept = next_cond (λ h. AgreeBut written h g) (each_byte rights.held e.width e.address) (Goes (at_next locs g)) (Ends Outside) (λ x lt l. kept x l) tt
 
-storing : (written : List ℕ) (rights : Rights) (bytes locs : ℕ → ℕ) (e : Effect) (g : Guest) → ((x : ℕ) → Lacks written x → locs x ≡ g.locs x) → Next (λ h. AgreeBut written h g) (stores rights bytes locs e g)
-storing written rights bytes locs e g kept = next_cond (λ h. AgreeBut written h g) (each_byte rights.writable e.width e.address) (Goes (record (onward locs g) { bytes = bytes })) (Ends Outside) (λ x lt l. kept x l) tt
+storing : (written : List ℕ) (rights : Rights) (bytes locs : ℕ → ℕ) (e : Effect) (g : Guest) → ((x : ℕ) → Lacks written x → locs x ≡ g.locs x) → Next (λ h. AgreeBut written h g) (store_outcome rights bytes locs e g)
+storing written rights bytes locs e g kept = next_cond (λ h. AgreeBut written h g) (each_byte rights.writable e.width e.address) (Goes (record (at_next locs g) { bytes = bytes })) (Ends Outside) (λ x lt l. kept x l) tt
 
-trapping : (taken : Bool) (g : Guest) → Next (λ h. AgreeBut [] h g) (cond taken (Ends Trapped) (Goes (onward g.locs g)))
-trapping taken g = next_cond (λ h. AgreeBut [] h g) taken (Ends Trapped) (Goes (onward g.locs g)) tt (λ x lt l. refl)
+trapping : (taken : Bool) (g : Guest) → Next (λ h. AgreeBut [] h g) (cond taken (Ends Trapped) (Goes (at_next g.locs g)))
+trapping taken g = next_cond (λ h. AgreeBut [] h g) taken (Ends Trapped) (Goes (at_next g.locs g)) tt (λ x lt l. refl)
 
 one : (k v : ℕ) (p : ℕ → ℕ) (x : ℕ) → Lacks (k ∷ []) x → update p k v x ≡ p x
 one k v p x l = update_other p k v x (not_first k x [] l)

@@ -13,7 +13,7 @@ use Rattle.ppc_isa.specs.CompareRows.{trap_holds}
 use Rattle.ppc_isa.specs.SumRows.{base as base_value}
 use Rattle.ppc_isa.specs.Rows.{load_row, load_update_row, load_indexed_row, load_indexed_update_row}
 use Rattle.machines.specs.Memory.{update, store_big, Rights}
-use Rattle.machines.specs.Guest.{Guest, values_of, effect_of, acts, onward, cr_word, xer_word, put_cr, put_loaded, store_registers, results, put_special, register_target, branch_target}
+use Rattle.machines.specs.Guest.{Guest, guest_values, effect_of, guest_acts, at_next, cr_word, xer_word, put_cr, put_loaded, store_registers, results, put_special, register_target, branch_target}
 use Rattle.row_laws.specs.Laws.{Alike, AreSame, DependsOnItsReadsAlone}
 use Rattle.row_laws.proofs.Instructions.{Instr, Immediate, LogicImmediate, Load, Store, LoadUpdate, StoreUpdate, Multiple, TrapImmediate, CompareImmediate, Rotate, Branch, BranchConditional, SystemCall, Arithmetic, ArithmeticUnary, Logic, ShiftImmediate, LogicUnary, Compare, Trap, MoveFromCr, MoveToCr, MoveFromSpr, MoveToSpr, Sync, LoadIndexed, StoreIndexed, LoadIndexedUpdate, StoreIndexedUpdate, MoveCrField, CrLogic, Isync, BranchRegister, ImmediateOp, LogicImmediateOp, LoadOp, StoreOp, LoadUpdateOp, StoreUpdateOp, LoadIndexedOp, StoreIndexedOp, LoadIndexedUpdateOp, StoreIndexedUpdateOp, RotateOp, ArithmeticOp, ArithmeticUnaryOp, LogicOp, LogicUnaryOp, CrLogicOp, Lmw, Stmw, CompareImmediateOp, Cmpi, Cmpli, CompareOp, Cmp, Cmpl, BranchRegisterOp, Bclr, Bcctr}
 use Rattle.row_laws.proofs.Fields.{InRange}
@@ -28,14 +28,14 @@ use Rattle.row_laws.proofs.Changes.{values_in}
 abbrev Depends : Instr → Type 0
 Depends i =
     (rights : Rights) (p q : ℕ → ℕ) (next : ℕ) (bytes : ℕ → ℕ) → IsLegal i → InRange p → InRange q → SameIn (locations_read i) p q →
-    Alike (AreSame (locations_written i)) (acts rights i (effect_of i (state p next bytes)) (state p next bytes)) (acts rights i (effect_of i (state q next bytes)) (state q next bytes))
+    Alike (AreSame (locations_written i)) (guest_acts rights i (effect_of i (state p next bytes)) (state p next bytes)) (guest_acts rights i (effect_of i (state q next bytes)) (state q next bytes))
 
-going : (written : List ℕ) (f h p q : ℕ → ℕ) (next : ℕ) (bytes : ℕ → ℕ) → SameIn written f h → AreSame written (onward f (state p next bytes)) (onward h (state q next bytes))
+going : (written : List ℕ) (f h p q : ℕ → ℕ) (next : ℕ) (bytes : ℕ → ℕ) → SameIn written f h → AreSame written (at_next f (state p next bytes)) (at_next h (state q next bytes))
 going written f h p q next bytes s = record { locs = s; next = refl; bytes = refl }
 
 trapping : (b c : Bool) (p q : ℕ → ℕ) (next : ℕ) (bytes : ℕ → ℕ) → b ≡ c →
-    Alike (AreSame []) (cond b (Ends Trapped) (Goes (onward p (state p next bytes)))) (cond c (Ends Trapped) (Goes (onward q (state q next bytes))))
-trapping b c p q next bytes e = alike_cond (AreSame []) b c (Ends Trapped) (Ends Trapped) (Goes (onward p (state p next bytes))) (Goes (onward q (state q next bytes))) e refl (going [] p q p q next bytes (in_none p q))
+    Alike (AreSame []) (cond b (Ends Trapped) (Goes (at_next p (state p next bytes)))) (cond c (Ends Trapped) (Goes (at_next q (state q next bytes))))
+trapping b c p q next bytes e = alike_cond (AreSame []) b c (Ends Trapped) (Ends Trapped) (Goes (at_next p (state p next bytes))) (Goes (at_next q (state q next bytes))) e refl (going [] p q p q next bytes (in_none p q))
 
 so_when : (records : Bool) (p q : ℕ → ℕ) → InRange p → InRange q → SameIn (when records 43) p q → records ≡ true → bit_of (xer_word p) 31 ≡ bit_of (xer_word q) 31
 so_when records p q fp fq s r = so_same p q fp fq (same_when records 43 p q s r)
@@ -145,7 +145,7 @@ load op d a imm rights p q next bytes legal fp fq h =
     let i = Load op d a imm in
     let e = effect_of i (state p next bytes) in let f = effect_of i (state q next bytes) in
     let v = values_in i (state p next bytes) in let w = values_in i (state q next bytes) in
-    let v0 = values_of i 0 p in let w0 = values_of i 0 q in
+    let v0 = guest_values i 0 p in let w0 = guest_values i 0 q in
     let x = base_same a p q h in
     let l = loaded_same (load_row op a v0) (load_row op a w0) bytes (load_access op a v0 w0 x refl) in
     loading_same (d ∷ []) rights e f (update p d e.d) (update q d f.d) p q next bytes (load_access op a v w x refl) (one_same d e.d f.d p q (load_number op a v w l))
@@ -155,7 +155,7 @@ load_update op d a imm rights p q next bytes legal fp fq h =
     let i = LoadUpdate op d a imm in
     let e = effect_of i (state p next bytes) in let f = effect_of i (state q next bytes) in
     let v = values_in i (state p next bytes) in let w = values_in i (state q next bytes) in
-    let v0 = values_of i 0 p in let w0 = values_of i 0 q in
+    let v0 = guest_values i 0 p in let w0 = guest_values i 0 q in
     let x = same_first a [] p q h in
     let l = loaded_same (load_update_row op v0) (load_update_row op w0) bytes (load_update_access op v0 w0 x refl) in
     loading_same (d ∷ a ∷ []) rights e f (update (update p d e.d) a e.a) (update (update q d f.d) a f.a) p q next bytes (load_update_access op v w x refl)
@@ -166,7 +166,7 @@ load_indexed op d a b rights p q next bytes legal fp fq h =
     let i = LoadIndexed op d a b in
     let e = effect_of i (state p next bytes) in let f = effect_of i (state q next bytes) in
     let v = values_in i (state p next bytes) in let w = values_in i (state q next bytes) in
-    let v0 = values_of i 0 p in let w0 = values_of i 0 q in
+    let v0 = guest_values i 0 p in let w0 = guest_values i 0 q in
     let y = same_first b (base a) p q h in
     let x = base_same a p q (same_later b (base a) p q h) in
     let l = loaded_same (load_indexed_row op a v0) (load_indexed_row op a w0) bytes (load_indexed_access op a v0 w0 x y) in
@@ -177,7 +177,7 @@ load_indexed_update op d a b rights p q next bytes legal fp fq h =
     let i = LoadIndexedUpdate op d a b in
     let e = effect_of i (state p next bytes) in let f = effect_of i (state q next bytes) in
     let v = values_in i (state p next bytes) in let w = values_in i (state q next bytes) in
-    let v0 = values_of i 0 p in let w0 = values_of i 0 q in
+    let v0 = guest_values i 0 p in let w0 = guest_values i 0 q in
     let x = same_first a (b ∷ []) p q h in
     let y = same_first b [] p q (same_later a (b ∷ []) p q h) in
     let l = loaded_same (load_indexed_update_row op v0) (load_indexed_update_row op w0) bytes (load_indexed_update_access op v0 w0 x y) in
@@ -331,7 +331,7 @@ each (Multiple Lmw d a imm) = load_multiple d a imm
 each (Multiple Stmw s a imm) = store_multiple s a imm
 each (TrapImmediate to a imm) = λ rights p q next bytes legal fp fq h.
     let i = TrapImmediate to a imm in
-    trapping (effect_of i (state p next bytes)).taken (effect_of i (state q next bytes)).taken p q next bytes (ap (λ x. trap_holds to x (values_of i 0 p).b) (same_first a [] p q h))
+    trapping (effect_of i (state p next bytes)).taken (effect_of i (state q next bytes)).taken p q next bytes (ap (λ x. trap_holds to x (guest_values i 0 p).b) (same_first a [] p q h))
 each (CompareImmediate op field a imm) = compare_immediate op field a imm
 each (Rotate op s a by mask_begin mask_end records) = rotates op s a by mask_begin mask_end records
 each (Branch target absolute link) = λ rights p q next bytes legal fp fq h. record { locs = linked_same link next p q; next = refl; bytes = refl }
@@ -371,6 +371,6 @@ each (BranchRegister op bo bi link) = branch_register op bo bi link
 
 pub depends : DependsOnItsReadsAlone
 depends i rights g h legal fg fh same =
-    let P : Guest → Type 0 = λ s. Alike (AreSame (locations_written i)) (acts rights i (effect_of i g) g) (acts rights i (effect_of i s) s) in
+    let P : Guest → Type 0 = λ s. Alike (AreSame (locations_written i)) (guest_acts rights i (effect_of i g) g) (guest_acts rights i (effect_of i s) s) in
     let e : state h.locs g.next g.bytes ≡ h = ap (λ n. state h.locs n g.bytes) same.next ∙ ap (λ b. state h.locs h.next b) same.bytes in
     subst P e (each i rights g.locs h.locs g.next g.bytes legal fg fh same.locs)

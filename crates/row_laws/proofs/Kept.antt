@@ -13,7 +13,7 @@ use Rattle.ppc_isa.specs.Effect.{GuestValues, Effect}
 use Rattle.ppc_isa.specs.Recording.{so, place, with_ca, with_field}
 use Rattle.ppc_isa.specs.BranchRows.{bo_bit, counted}
 use Rattle.machines.specs.Memory.{update, load_big, block, each_byte, Rights}
-use Rattle.machines.specs.Guest.{Guest, cr_word, xer_word, put_cr, put_xer, results, puts_cr, puts_xer, put_special, put_loaded, linked, behind, after_given, without_so, with_so, asks, system_call}
+use Rattle.machines.specs.Guest.{Guest, cr_word, xer_word, put_cr, put_xer, results, puts_cr, puts_xer, put_special, put_loaded, linked, behind, after_guest_call, without_so, with_so, guest_asks, guest_system_call}
 use Rattle.row_laws.specs.Laws.{Next, AgreeBut}
 use Rattle.row_laws.proofs.Digits.{digit, with_bit_other}
 use Rattle.row_laws.proofs.Fields.{InRange, field_of_word, so_of_word, ov_of_word, xc_of_word, so_with_ca, ov_with_ca, xc_with_ca, with_field_other, put_cr_keeps, put_xer_keeps}
@@ -131,27 +131,27 @@ counted_kept bo v p x e lacks = by_test (bo_bit bo 2) refl
     by_test false i = update_other p 33 (counted bo v) x (not_when (bo_2 bo == 0) 33 x lacks (grind (arith, nat_tests)))
 
 -- what a call leaves
-pub given_kept : (r : Given) (g : Guest) → AgreeBut (3 ∷ 34 ∷ []) (after_given r g) g
+pub given_kept : (r : Given) (g : Guest) → AgreeBut (3 ∷ 34 ∷ []) (after_guest_call r g) g
 given_kept (GivesResult result to_buffer) g x lt lacks =
     update_other (update g.locs 3 result) 34 (without_so (g.locs 34)) x (not_first 34 x [] (not_later 3 x (34 ∷ []) lacks)) ∙ update_other g.locs 3 result x (not_first 3 x (34 ∷ []) lacks)
 given_kept (Fails error) g x lt lacks =
     update_other (update g.locs 3 error) 34 (with_so (g.locs 34)) x (not_first 34 x [] (not_later 3 x (34 ∷ []) lacks)) ∙ update_other g.locs 3 error x (not_first 3 x (34 ∷ []) lacks)
 
-pub call_kept : (rights : Rights) (g : Guest) → Next (λ h. AgreeBut (3 ∷ 34 ∷ []) h g) (system_call rights g)
+pub call_kept : (rights : Rights) (g : Guest) → Next (λ h. AgreeBut (3 ∷ 34 ∷ []) h g) (guest_system_call rights g)
 call_kept rights g =
     let P : Guest → Type 0 = λ h. AgreeBut (3 ∷ 34 ∷ []) h g in
     let fd = g.locs 3 in
     let buffer = g.locs 4 in
     let size = g.locs 5 in
-    let unknown = Goes (after_given (Fails 38) g) in
-    let closes = cond (eqb (g.locs 0) 6) (asks (Close fd) g) unknown in
-    let write = cond (each_byte rights.held size buffer) (asks (Write fd (block size buffer g.bytes)) g) (Ends Outside) in
+    let unknown = Goes (after_guest_call (Fails 38) g) in
+    let closes = cond (eqb (g.locs 0) 6) (guest_asks (Close fd) g) unknown in
+    let write = cond (each_byte rights.held size buffer) (guest_asks (Write fd (block size buffer g.bytes)) g) (Ends Outside) in
     let writes = cond (eqb (g.locs 0) 4) write closes in
-    let read = cond (each_byte rights.writable size buffer) (asks (Read fd size) g) (Ends Outside) in
+    let read = cond (each_byte rights.writable size buffer) (guest_asks (Read fd size) g) (Ends Outside) in
     let reads = cond (eqb (g.locs 0) 3) read writes in
     next_cond P (eqb (g.locs 0) 1 || eqb (g.locs 0) 234) (Ends (Exit fd)) reads tt
     (next_cond P (eqb (g.locs 0) 3) read writes
-    (next_cond P (each_byte rights.writable size buffer) (asks (Read fd size) g) (Ends Outside) (λ a. given_kept (given (Read fd size) a) g) tt)
+    (next_cond P (each_byte rights.writable size buffer) (guest_asks (Read fd size) g) (Ends Outside) (λ a. given_kept (given (Read fd size) a) g) tt)
     (next_cond P (eqb (g.locs 0) 4) write closes
-    (next_cond P (each_byte rights.held size buffer) (asks (Write fd (block size buffer g.bytes)) g) (Ends Outside) (λ a. given_kept (given (Write fd (block size buffer g.bytes)) a) g) tt)
-    (next_cond P (eqb (g.locs 0) 6) (asks (Close fd) g) unknown (λ a. given_kept (given (Close fd) a) g) (given_kept (Fails 38) g))))
+    (next_cond P (each_byte rights.held size buffer) (guest_asks (Write fd (block size buffer g.bytes)) g) (Ends Outside) (λ a. given_kept (given (Write fd (block size buffer g.bytes)) a) g) tt)
+    (next_cond P (eqb (g.locs 0) 6) (guest_asks (Close fd) g) unknown (λ a. given_kept (given (Close fd) a) g) (given_kept (Fails 38) g))))

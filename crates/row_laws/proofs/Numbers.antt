@@ -11,7 +11,7 @@ use Rattle.ppc_isa.specs.RotateRows.{rotate}
 use Rattle.ppc_isa.specs.ProductRows.{quotient_signed, quotient_unsigned}
 use Rattle.ppc_isa.specs.AccessRows.{half_extended, byte_extended}
 use Rattle.ppc_isa.specs.Rows.{immediate_row, arithmetic_row, arithmetic_unary_row, logic_row, logic_unary_row}
-use Rattle.machines.specs.Guest.{values_of, immediate_word}
+use Rattle.machines.specs.Guest.{guest_values, immediate_word}
 use Rattle.row_laws.proofs.Instructions.{Immediate, Rotate, ImmediateOp, Addi, Addis, Addic, AddicRecord, Subfic, Mulli, RotateOp, Rlwinm, Rlwnm, Rlwimi, ArithmeticOp, Add, Addc, Adde, Subf, Subfc, Subfe, Mullw, Mulhw, Mulhwu, Divw, Divwu, ArithmeticUnaryOp, Addze, Addme, Subfze, Subfme, Neg, LogicOp, And, Or, Xor, Nand, Nor, Eqv, Andc, Orc, Slw, Srw, Sraw, LogicUnaryOp, Cntlzw, Extsb, Extsh}
 use Rattle.row_laws.proofs.Lists.{SameIn, same_first, same_later}
 use Rattle.row_laws.proofs.Shapes.{immediate_carry, arithmetic_carry, arithmetic_unary_carry, logic_carry}
@@ -31,7 +31,7 @@ base_same a p q s = by_test (eqb a 0) s
     by_test false s = same_first a [] p q s
 
 pub immediate_number : (op : ImmediateOp) (d a imm l m : ℕ) (p q : ℕ → ℕ) → SameIn (immediate_operand op a) p q →
-    (immediate_row op a (values_of (Immediate op d a imm) l p)).d ≡ (immediate_row op a (values_of (Immediate op d a imm) m q)).d
+    (immediate_row op a (guest_values (Immediate op d a imm) l p)).d ≡ (immediate_row op a (guest_values (Immediate op d a imm) m q)).d
 immediate_number Addi d a imm l m p q s = ap (λ x. (x + immediate_word Addi imm) % 2 ^ 32) (base_same a p q s)
 immediate_number Addis d a imm l m p q s = ap (λ x. (x + immediate_word Addis imm) % 2 ^ 32) (base_same a p q s)
 immediate_number Addic d a imm l m p q s = ap (λ x. sum_word x (immediate_word Addic imm) false) (same_first a [] p q s)
@@ -40,7 +40,7 @@ immediate_number Subfic d a imm l m p q s = ap (λ x. sum_word (complement x) (i
 immediate_number Mulli d a imm l m p q s = ap (λ x. product_low x (immediate_word Mulli imm)) (same_first a [] p q s)
 
 pub immediate_carry_same : (op : ImmediateOp) (d a imm l m : ℕ) (p q : ℕ → ℕ) → SameIn (immediate_operand op a) p q →
-    immediate_carry op (values_of (Immediate op d a imm) l p) ≡ immediate_carry op (values_of (Immediate op d a imm) m q)
+    immediate_carry op (guest_values (Immediate op d a imm) l p) ≡ immediate_carry op (guest_values (Immediate op d a imm) m q)
 immediate_carry_same Addi d a imm l m p q s = refl
 immediate_carry_same Addis d a imm l m p q s = refl
 immediate_carry_same Addic d a imm l m p q s = ap (λ x. sum_carries x (immediate_word Addic imm) false) (same_first a [] p q s)
@@ -105,7 +105,7 @@ logic_unary_number Extsb records v w s = ap (λ x. byte_extended x) s
 logic_unary_number Extsh records v w s = ap (λ x. half_extended x) s
 
 pub rotate_number : (op : RotateOp) (s a by mb me l m : ℕ) (records : Bool) (p q : ℕ → ℕ) → SameIn (rotate_operands op s a by) p q →
-    rotate op by mb me (values_of (Rotate op s a by mb me records) l p) ≡ rotate op by mb me (values_of (Rotate op s a by mb me records) m q)
+    rotate op by mb me (guest_values (Rotate op s a by mb me records) l p) ≡ rotate op by mb me (guest_values (Rotate op s a by mb me records) m q)
 rotate_number Rlwinm s a by mb me l m records p q h = ap (λ x. word_and (rotated x by) (mask mb me)) (same_first s [] p q h)
 rotate_number Rlwnm s a by mb me l m records p q h = both (λ x y. word_and (rotated x y) (mask mb me)) (same_first s (by ∷ []) p q h) (same_first by [] p q (same_later s (by ∷ []) p q h))
 rotate_number Rlwimi s a by mb me l m records p q h = both (λ x y. word_or (word_and (rotated x by) (mask mb me)) (word_and y (complement (mask mb me)))) (same_first s (a ∷ []) p q h) (same_first a [] p q (same_later s (a ∷ []) p q h))

@@ -13,7 +13,7 @@ use Rattle.ppc_isa.specs.Recording.{so, place, with_ca, with_field, compared}
 use Rattle.ppc_isa.specs.FieldRows.{cr_bit, special_put}
 use Rattle.ppc_isa.specs.BranchRows.{bo_bit, counted, count_allows, condition_allows}
 use Rattle.machines.specs.Memory.{update, load_big, block, put_block, each_byte, Rights}
-use Rattle.machines.specs.Guest.{Guest, cr_word, xer_word, put_cr, results, puts_cr, puts_xer, put_special, put_loaded, linked, behind, onward, branches, loads, stores, after_given, without_so, with_so, asks, system_call}
+use Rattle.machines.specs.Guest.{Guest, cr_word, xer_word, put_cr, results, puts_cr, puts_xer, put_special, put_loaded, linked, behind, at_next, branches, load_outcome, store_outcome, after_guest_call, without_so, with_so, guest_asks, guest_system_call}
 use Rattle.row_laws.specs.Laws.{Alike, AreSame}
 use Rattle.row_laws.proofs.Digits.{digit, bit_in_digit, with_bit_own}
 use Rattle.row_laws.proofs.Fields.{InRange, field_of_word, ca_of_word, so_of_word, ca_put, four_bits, with_field_own, put_cr_at, put_cr_off, put_xer_off}
@@ -136,19 +136,19 @@ results_same carries records k r r' n n' c c' e e' v w p q lt hr hn hc hs g g' =
 
 -- accesses
 pub loading_same : (written : List ℕ) (rights : Rights) (e e' : Effect) (f h p q : ℕ → ℕ) (next : ℕ) (bytes : ℕ → ℕ) → SameAccess e e' → SameIn written f h →
-    Alike (AreSame written) (loads rights f e (state p next bytes)) (loads rights h e' (state q next bytes))
+    Alike (AreSame written) (load_outcome rights f e (state p next bytes)) (load_outcome rights h e' (state q next bytes))
 loading_same written rights e e' f h p q next bytes s locs =
-    alike_cond (AreSame written) (each_byte rights.held e.width e.address) (each_byte rights.held e'.width e'.address) (Goes (onward f (state p next bytes))) (Goes (onward h (state q next bytes))) (Ends Outside) (Ends Outside)
+    alike_cond (AreSame written) (each_byte rights.held e.width e.address) (each_byte rights.held e'.width e'.address) (Goes (at_next f (state p next bytes))) (Goes (at_next h (state q next bytes))) (Ends Outside) (Ends Outside)
     (both (λ n a. each_byte rights.held n a) s.width s.address) (record { locs = locs; next = refl; bytes = refl }) refl
 
 pub storing_same : (written : List ℕ) (rights : Rights) (e e' : Effect) (b b' f h p q : ℕ → ℕ) (next : ℕ) (bytes : ℕ → ℕ) → SameAccess e e' → b ≡ b' → SameIn written f h →
-    Alike (AreSame written) (stores rights b f e (state p next bytes)) (stores rights b' h e' (state q next bytes))
+    Alike (AreSame written) (store_outcome rights b f e (state p next bytes)) (store_outcome rights b' h e' (state q next bytes))
 storing_same written rights e e' b b' f h p q next bytes s i locs =
     alike_cond (AreSame written) (each_byte rights.writable e.width e.address) (each_byte rights.writable e'.width e'.address)
-    (Goes (record (onward f (state p next bytes)) { bytes = b })) (Goes (record (onward h (state q next bytes)) { bytes = b' })) (Ends Outside) (Ends Outside)
+    (Goes (record (at_next f (state p next bytes)) { bytes = b })) (Goes (record (at_next h (state q next bytes)) { bytes = b' })) (Ends Outside) (Ends Outside)
     (both (λ n a. each_byte rights.writable n a) s.width s.address) (record { locs = locs; next = refl; bytes = i }) refl
 
--- lmw loads the registers that it writes
+-- lmw load_outcome the registers that it writes
 pub loaded_alike : (d at at' : ℕ) (bytes p q : ℕ → ℕ) → d < 32 → at ≡ at' → SameIn (registers_from d) (put_loaded d at bytes p) (put_loaded d at' bytes q)
 loaded_alike d at at' bytes p q lt e x c =
     let r = in_registers d x lt c in
@@ -271,31 +271,31 @@ branching_same bo bi link target target' v w p q next bytes ht hc hb = record {
         ∙ ap (λ b. count_allows bo (counted bo w) && b) (or_same (bo_bit bo 0) (same (bo_bit bo 1) (cr_bit bi v)) (same (bo_bit bo 1) (cr_bit bi w)) (λ i. ap (same (bo_bit bo 1)) (hb (conditional bo i))))
 
 -- calls
-given_same : (r r' : Given) (p q : ℕ → ℕ) (next : ℕ) (bytes : ℕ → ℕ) → r ≡ r' → p 4 ≡ q 4 → p 34 ≡ q 34 → AreSame (3 ∷ 34 ∷ []) (after_given r (state p next bytes)) (after_given r' (state q next bytes))
-given_same r r' p q next bytes e buffer field = let P : Given → Type 0 = λ x. AreSame (3 ∷ 34 ∷ []) (after_given r (state p next bytes)) (after_given x (state q next bytes)) in subst P e (alike r)
+given_same : (r r' : Given) (p q : ℕ → ℕ) (next : ℕ) (bytes : ℕ → ℕ) → r ≡ r' → p 4 ≡ q 4 → p 34 ≡ q 34 → AreSame (3 ∷ 34 ∷ []) (after_guest_call r (state p next bytes)) (after_guest_call r' (state q next bytes))
+given_same r r' p q next bytes e buffer field = let P : Given → Type 0 = λ x. AreSame (3 ∷ 34 ∷ []) (after_guest_call r (state p next bytes)) (after_guest_call x (state q next bytes)) in subst P e (alike r)
   where
     locs : (v : ℕ) (g : ℕ → ℕ) → SameIn (3 ∷ 34 ∷ []) (update (update p 3 v) 34 (g (p 34))) (update (update q 3 v) 34 (g (q 34)))
     locs v g = two_same 3 34 v (g (p 34)) v (g (q 34)) p q refl (ap g field)
 
-    alike : (r : Given) → AreSame (3 ∷ 34 ∷ []) (after_given r (state p next bytes)) (after_given r (state q next bytes))
+    alike : (r : Given) → AreSame (3 ∷ 34 ∷ []) (after_guest_call r (state p next bytes)) (after_guest_call r (state q next bytes))
     alike (GivesResult result to_buffer) = record { locs = locs result without_so; next = refl; bytes = ap (λ b. put_block b to_buffer bytes) buffer }
     alike (Fails error) = record { locs = locs error with_so; next = refl; bytes = refl }
 
-asks_same : (call call' : ListedCall) (p q : ℕ → ℕ) (next : ℕ) (bytes : ℕ → ℕ) → call ≡ call' → p 4 ≡ q 4 → p 34 ≡ q 34 → Alike (AreSame (3 ∷ 34 ∷ [])) (asks call (state p next bytes)) (asks call' (state q next bytes))
+asks_same : (call call' : ListedCall) (p q : ℕ → ℕ) (next : ℕ) (bytes : ℕ → ℕ) → call ≡ call' → p 4 ≡ q 4 → p 34 ≡ q 34 → Alike (AreSame (3 ∷ 34 ∷ [])) (guest_asks call (state p next bytes)) (guest_asks call' (state q next bytes))
 asks_same call call' p q next bytes e buffer field = (e, λ a. given_same (given call a) (given call' a) p q next bytes (ap (λ c. given c a) e) buffer field)
 
 pub call_same : (rights : Rights) (p q : ℕ → ℕ) (next : ℕ) (bytes : ℕ → ℕ) → SameIn (0 ∷ 3 ∷ 4 ∷ 5 ∷ 34 ∷ []) p q →
-    Alike (AreSame (3 ∷ 34 ∷ [])) (system_call rights (state p next bytes)) (system_call rights (state q next bytes))
+    Alike (AreSame (3 ∷ 34 ∷ [])) (guest_system_call rights (state p next bytes)) (guest_system_call rights (state q next bytes))
 call_same rights p q next bytes s =
     test (eqb (p 0) 1 || eqb (p 0) 234) (eqb (q 0) 1 || eqb (q 0) 234) (Ends (Exit (p 3))) (Ends (Exit (q 3))) (reads p) (reads q) (ap (λ n. eqb n 1 || eqb n 234) number) (ap Exit fd)
     (test (eqb (p 0) 3) (eqb (q 0) 3) (read p) (read q) (writes p) (writes q) (ap (λ n. eqb n 3) number)
-    (test (each_byte rights.writable (p 5) (p 4)) (each_byte rights.writable (q 5) (q 4)) (asks (Read (p 3) (p 5)) (at p)) (asks (Read (q 3) (q 5)) (at q)) (Ends Outside) (Ends Outside) (both (λ n b. each_byte rights.writable n b) size buffer)
+    (test (each_byte rights.writable (p 5) (p 4)) (each_byte rights.writable (q 5) (q 4)) (guest_asks (Read (p 3) (p 5)) (at p)) (guest_asks (Read (q 3) (q 5)) (at q)) (Ends Outside) (Ends Outside) (both (λ n b. each_byte rights.writable n b) size buffer)
     (asks_same (Read (p 3) (p 5)) (Read (q 3) (q 5)) p q next bytes (both (λ f n. Read f n) fd size) buffer field) refl)
     (test (eqb (p 0) 4) (eqb (q 0) 4) (write p) (write q) (closes p) (closes q) (ap (λ n. eqb n 4) number)
-    (test (each_byte rights.held (p 5) (p 4)) (each_byte rights.held (q 5) (q 4)) (asks (Write (p 3) (block (p 5) (p 4) bytes)) (at p)) (asks (Write (q 3) (block (q 5) (q 4) bytes)) (at q)) (Ends Outside) (Ends Outside) (both (λ n b. each_byte rights.held n b) size buffer)
+    (test (each_byte rights.held (p 5) (p 4)) (each_byte rights.held (q 5) (q 4)) (guest_asks (Write (p 3) (block (p 5) (p 4) bytes)) (at p)) (guest_asks (Write (q 3) (block (q 5) (q 4) bytes)) (at q)) (Ends Outside) (Ends Outside) (both (λ n b. each_byte rights.held n b) size buffer)
     (asks_same (Write (p 3) (block (p 5) (p 4) bytes)) (Write (q 3) (block (q 5) (q 4) bytes)) p q next bytes
     (ap (λ f. Write f (block (p 5) (p 4) bytes)) fd ∙ both (λ n b. Write (q 3) (block n b bytes)) size buffer) buffer field) refl)
-    (test (eqb (p 0) 6) (eqb (q 0) 6) (asks (Close (p 3)) (at p)) (asks (Close (q 3)) (at q)) (unknown p) (unknown q) (ap (λ n. eqb n 6) number)
+    (test (eqb (p 0) 6) (eqb (q 0) 6) (guest_asks (Close (p 3)) (at p)) (guest_asks (Close (q 3)) (at q)) (unknown p) (unknown q) (ap (λ n. eqb n 6) number)
     (asks_same (Close (p 3)) (Close (q 3)) p q next bytes (ap Close fd) buffer field)
     (given_same (Fails 38) (Fails 38) p q next bytes refl buffer field))))
   where
@@ -303,19 +303,19 @@ call_same rights p q next bytes s =
     at l = state l next bytes
 
     unknown : (ℕ → ℕ) → Outcome Guest
-    unknown l = Goes (after_given (Fails 38) (at l))
+    unknown l = Goes (after_guest_call (Fails 38) (at l))
 
     closes : (ℕ → ℕ) → Outcome Guest
-    closes l = cond (eqb (l 0) 6) (asks (Close (l 3)) (at l)) (unknown l)
+    closes l = cond (eqb (l 0) 6) (guest_asks (Close (l 3)) (at l)) (unknown l)
 
     write : (ℕ → ℕ) → Outcome Guest
-    write l = cond (each_byte rights.held (l 5) (l 4)) (asks (Write (l 3) (block (l 5) (l 4) bytes)) (at l)) (Ends Outside)
+    write l = cond (each_byte rights.held (l 5) (l 4)) (guest_asks (Write (l 3) (block (l 5) (l 4) bytes)) (at l)) (Ends Outside)
 
     writes : (ℕ → ℕ) → Outcome Guest
     writes l = cond (eqb (l 0) 4) (write l) (closes l)
 
     read : (ℕ → ℕ) → Outcome Guest
-    read l = cond (each_byte rights.writable (l 5) (l 4)) (asks (Read (l 3) (l 5)) (at l)) (Ends Outside)
+    read l = cond (each_byte rights.writable (l 5) (l 4)) (guest_asks (Read (l 3) (l 5)) (at l)) (Ends Outside)
 
     reads : (ℕ → ℕ) → Outcome Guest
     reads l = cond (eqb (l 0) 3) (read l) (writes l)

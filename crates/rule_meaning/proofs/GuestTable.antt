@@ -4,7 +4,7 @@ use Rattle.std.proofs.lemmas.Bool.Decides.{nat_tests}
 use Rattle.runs.specs.Machine.{Goes}
 use Rattle.ppc_isa.specs.Effect.{Effect}
 use Rattle.machines.specs.Memory.{update}
-use Rattle.machines.specs.Guest.{lr, ctr, puts_xer, put_xer, onward}
+use Rattle.machines.specs.Guest.{lr, ctr, puts_xer, put_xer, at_next}
 use Rattle.row_laws.proofs.Instructions.{Immediate, LogicImmediate, Load, Store, LoadUpdate, StoreUpdate, CompareImmediate, Rotate, Arithmetic, ArithmeticUnary, Logic, ShiftImmediate, LogicUnary, Compare, MoveFromCr, MoveToCr, MoveFromSpr, MoveToSpr, Sync, LoadIndexed, StoreIndexed, LoadIndexedUpdate, StoreIndexedUpdate, MoveCrField, CrLogic, Isync, Addi, Addis, Addic, AddicRecord, Subfic, Mulli, Ori, Oris, Xori, Xoris, Andi, Andis, Cmpi, Cmpli, Rlwinm, Rlwnm, Rlwimi, Lwz, Lbz, Lhz, Lha, Lwzu, Lbzu, Lhzu, Lhau, Lwzx, Lbzx, Lhzx, Lhax, Lwbrx, Lhbrx, Lwzux, Lbzux, Lhzux, Lhaux}
 use Rattle.rule_meaning.specs.Fields.{RowsReadFields, RowsPutFields, AccessesPutFields, BranchesPutFields, LoadsHaveWidths}
 use Rattle.rule_meaning.proofs.Rows.{immediate_kind, arithmetic_kind, arithmetic_unary_kind, logic_kind, logic_unary_kind, compare_kind, compare_immediate_kind, store_kind, store_update_kind, store_indexed_kind, store_indexed_update_kind}
@@ -33,7 +33,7 @@ rows_put_fields rights (Compare op field a b) e g plain none = refl
 rows_put_fields rights (MoveFromCr d) e g plain none = refl
 rows_put_fields rights (MoveToCr s mask) e g plain none = refl
 rows_put_fields rights (MoveFromSpr d spr) e g plain none = refl
-rows_put_fields rights (MoveToSpr s spr) e g plain none = ap (λ l. Goes (onward l g)) (special (spr == 1) (spr == 8) (one_of spr) e g.locs)
+rows_put_fields rights (MoveToSpr s spr) e g plain none = ap (λ l. Goes (at_next l g)) (special (spr == 1) (spr == 8) (one_of spr) e g.locs)
 rows_put_fields rights Sync e g plain none = refl
 rows_put_fields rights (MoveCrField to from) e g plain none = refl
 rows_put_fields rights (CrLogic op d a b) e g plain none = refl

@@ -6,7 +6,7 @@ use Rattle.space.specs.declared.call.End.TheVariants.{Outside}
 use Rattle.runs.specs.Machine.{Outcome, Goes, Asks, Ends}
 use Rattle.ppc_isa.specs.declared.instr.Instr.{Instr}
 use Rattle.machines.specs.Memory.{each_byte, Rights}
-use Rattle.machines.specs.Guest.{Guest, effect_of, acts, behind}
+use Rattle.machines.specs.Guest.{Guest, effect_of, guest_acts, behind}
 use Rattle.symbolic_tiles.specs.Row.{loaded, stored}
 use Rattle.symbolic_tiles.specs.Straight.{IsStraight}
 use Rattle.simulation.specs.Windows.{then_row, rows_of, behind_all, IsQuiet, IsLinked}
@@ -32,15 +32,15 @@ each_anywhere (suc n) a = each_anywhere n (a + 1)
 -- behind a word that goes on with others behind it
 pub record Stepped (rights : Rights) (i : Instr) (g : Guest) (next : ℕ) (rest : Guest → Outcome Guest) (g' : Guest) : Type 0 where
   pub after : Guest
-  pub goes : acts rights i (effect_of i g) g ≡ Goes after
-  pub anywhere : acts everywhere i (effect_of i g) g ≡ Goes after
+  pub goes : guest_acts rights i (effect_of i g) g ≡ Goes after
+  pub anywhere : guest_acts everywhere i (effect_of i g) g ≡ Goes after
   pub later : rest after ≡ Goes g'
   pub next_is : after.next ≡ next
   pub loads : (a : ℕ) → Contains (loaded (effect_of i g).kind (effect_of i g).width (effect_of i g).address) a → rights.held a ≡ true
   pub stores : (a : ℕ) → Contains (stored (effect_of i g).kind (effect_of i g).width (effect_of i g).address) a → rights.writable a ≡ true
 
 module _ (rights : Rights) (i : Instr) (g : Guest) (next : ℕ) (rest : Guest → Outcome Guest) (g' : Guest) where
-  pub stepped : RowShape i g next → then_row rest (acts rights i (effect_of i g) g) ≡ Goes g' → Stepped rights i g next rest g'
+  pub stepped : RowShape i g next → then_row rest (guest_acts rights i (effect_of i g) g) ≡ Goes g' → Stepped rights i g next rest g'
   stepped (calm after n kind does) goes = record {
     after = after;
     goes = does rights;
@@ -78,7 +78,7 @@ module _ (rights : Rights) (i : Instr) (g : Guest) (next : ℕ) (rest : Guest �
       by_test false e later = absurd cc
 
 -- a row of this shape goes on, or ends outside
-straight_of : (rights : Rights) (i : Instr) (g : Guest) (next : ℕ) → RowShape i g next → IsStraight next (acts rights i (effect_of i g) g)
+straight_of : (rights : Rights) (i : Instr) (g : Guest) (next : ℕ) → RowShape i g next → IsStraight next (guest_acts rights i (effect_of i g) g)
 straight_of rights i g next (calm after n kind does) = subst (IsStraight next) (sym (does rights)) n
 straight_of rights i g next (loading after n kind does) = subst (IsStraight next) (sym (does rights)) (by_test (each_byte rights.held (effect_of i g).width (effect_of i g).address))
   where
@@ -129,12 +129,12 @@ module _ (rights : Rights) where
     next_is = rest.next_is;
   }
 
-  next_later : (forks : Bool) (i j : Instr) (is : List Instr) (g after : Guest) → acts everywhere i (effect_of i g) g ≡ Goes after → after.next ≡ behind g.next → next_of forks (j ∷ is) after ≡ next_of forks (i ∷ j ∷ is) g
+  next_later : (forks : Bool) (i j : Instr) (is : List Instr) (g after : Guest) → guest_acts everywhere i (effect_of i g) g ≡ Goes after → after.next ≡ behind g.next → next_of forks (j ∷ is) after ≡ next_of forks (i ∷ j ∷ is) g
   unfolding taken_of target_of
   next_later true i j is g after e n =
-      let t : taken_of (j ∷ is) after ≡ behind_row false (taken_of (j ∷ is)) (acts everywhere i (effect_of i g) g) = ap (behind_row false (taken_of (j ∷ is))) (sym e) in
+      let t : taken_of (j ∷ is) after ≡ behind_row false (taken_of (j ∷ is)) (guest_acts everywhere i (effect_of i g) g) = ap (behind_row false (taken_of (j ∷ is))) (sym e) in
       ap (λ b. cond b (target_of (j ∷ is) after.next) (behind_all after.next (j ∷ is))) t
-      ∙ ap (λ w. cond (behind_row false (taken_of (j ∷ is)) (acts everywhere i (effect_of i g) g)) (target_of (j ∷ is) w) (behind_all w (j ∷ is))) n
+      ∙ ap (λ w. cond (behind_row false (taken_of (j ∷ is)) (guest_acts everywhere i (effect_of i g) g)) (target_of (j ∷ is) w) (behind_all w (j ∷ is))) n
   next_later false i j is g after e n = ap (λ w. behind_all w (j ∷ is)) n
 
   fork_last : (i : Instr) (g : Guest) → is_fork i ≡ true → RowShape i g (next_of true (i ∷ []) g)

@@ -5,7 +5,7 @@ use Rattle.runs.specs.Machine.{Goes, Ends}
 use Rattle.ppc_isa.specs.Effect.{GuestValues, NoAccess, LoadAccess, StoreAccess}
 use Rattle.ppc_isa.specs.Rows.{guest_row}
 use Rattle.machines.specs.Memory.{each_byte, Rights}
-use Rattle.machines.specs.Guest.{Guest, effect_of, acts, behind}
+use Rattle.machines.specs.Guest.{Guest, effect_of, guest_acts, behind}
 use Rattle.rule_body.specs.Rows.{is_plain}
 use Rattle.rule_meaning.specs.Laid.{target_at}
 use Rattle.row_laws.proofs.Instructions.{Instr, Immediate, LogicImmediate, Load, Store, LoadUpdate, StoreUpdate, CompareImmediate, Rotate, Arithmetic, ArithmeticUnary, Logic, ShiftImmediate, LogicUnary, Compare, MoveFromCr, MoveToCr, MoveFromSpr, MoveToSpr, Sync, LoadIndexed, StoreIndexed, LoadIndexedUpdate, StoreIndexedUpdate, MoveCrField, CrLogic, Isync, Multiple, TrapImmediate, Branch, BranchConditional, SystemCall, Trap, BranchRegister, ArithmeticOp, ArithmeticUnaryOp, CompareImmediateOp, CompareOp, ImmediateOp, LoadIndexedOp, LoadIndexedUpdateOp, LoadOp, LoadUpdateOp, LogicOp, LogicUnaryOp, StoreIndexedOp, StoreIndexedUpdateOp, StoreOp, StoreUpdateOp, Addi, Addis, Addic, AddicRecord, Subfic, Mulli, Lwz, Lbz, Lhz, Lha, Stw, Stb, Sth, Lwzu, Lbzu, Lhzu, Lhau, Stwu, Stbu, Sthu, Cmpi, Cmpli, Add, Addc, Adde, Subf, Subfc, Subfe, Mullw, Mulhw, Mulhwu, Divw, Divwu, Addze, Addme, Subfze, Subfme, Neg, And, Or, Xor, Nand, Nor, Eqv, Andc, Orc, Slw, Srw, Sraw, Cntlzw, Extsb, Extsh, Cmp, Cmpl, Lwzx, Lbzx, Lhzx, Lhax, Lwbrx, Lhbrx, Stwx, Stbx, Sthx, Stwbrx, Sthbrx, Lwzux, Lbzux, Lhzux, Lhaux, Stwux, Stbux, Sthux}
@@ -13,9 +13,9 @@ use Rattle.row_laws.proofs.Instructions.{Instr, Immediate, LogicImmediate, Load,
 -- What an instruction's row does, whatever the rights: it goes on; or it loads, or stores, and goes on where its bytes are
 -- inside, else it ends outside. Behind it the next word is at this address.
 pub data RowShape (i : Instr) (g : Guest) (next : ℕ) : Type 0 where
-  calm : (after : Guest) → after.next ≡ next → (effect_of i g).kind ≡ NoAccess → ((rights : Rights) → acts rights i (effect_of i g) g ≡ Goes after) → RowShape i g next
-  loading : (after : Guest) → after.next ≡ next → (effect_of i g).kind ≡ LoadAccess → ((rights : Rights) → acts rights i (effect_of i g) g ≡ cond (each_byte rights.held (effect_of i g).width (effect_of i g).address) (Goes after) (Ends Outside)) → RowShape i g next
-  storing : (after : Guest) → after.next ≡ next → (effect_of i g).kind ≡ StoreAccess → ((rights : Rights) → acts rights i (effect_of i g) g ≡ cond (each_byte rights.writable (effect_of i g).width (effect_of i g).address) (Goes after) (Ends Outside)) → RowShape i g next
+  calm : (after : Guest) → after.next ≡ next → (effect_of i g).kind ≡ NoAccess → ((rights : Rights) → guest_acts rights i (effect_of i g) g ≡ Goes after) → RowShape i g next
+  loading : (after : Guest) → after.next ≡ next → (effect_of i g).kind ≡ LoadAccess → ((rights : Rights) → guest_acts rights i (effect_of i g) g ≡ cond (each_byte rights.held (effect_of i g).width (effect_of i g).address) (Goes after) (Ends Outside)) → RowShape i g next
+  storing : (after : Guest) → after.next ≡ next → (effect_of i g).kind ≡ StoreAccess → ((rights : Rights) → guest_acts rights i (effect_of i g) g ≡ cond (each_byte rights.writable (effect_of i g).width (effect_of i g).address) (Goes after) (Ends Outside)) → RowShape i g next
 
 pub immediate_kind : (op : ImmediateOp) (d : ℕ) (a : ℕ) (imm : ℕ) (v : GuestValues) → (guest_row (Immediate op d a imm) v).kind ≡ NoAccess
 immediate_kind Addi d a imm v = refl

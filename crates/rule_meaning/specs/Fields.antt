@@ -22,7 +22,7 @@ use Rattle.ppc_isa.specs.Locations.{immediate_carries, immediate_records, carry_
 use Rattle.ppc_isa.specs.Effect.{Effect, GuestValues, LoadAccess}
 use Rattle.ppc_isa.specs.Rows.{guest_row}
 use Rattle.machines.specs.Memory.{Rights, update, store_big, each_byte}
-use Rattle.machines.specs.Guest.{Guest, lr, ctr, puts_cr, puts_xer, branches, onward, acts, value_a, value_b, value_s}
+use Rattle.machines.specs.Guest.{Guest, lr, ctr, puts_cr, puts_xer, branches, at_next, guest_acts, value_a, value_b, value_s}
 use Rattle.rule_body.specs.Rows.{is_plain, has_access}
 use Rattle.rule_meaning.specs.Laid.{target_at}
 
@@ -233,18 +233,18 @@ RowsReadFields = (i : Instr) (locs : ℕ → ℕ) → is_plain i ≡ true → Re
 
 -- It puts what the table says and goes on to the next word; an access that it may not make ends the run.
 abbrev pub RowsPutFields : Type 0
-RowsPutFields = (rights : Rights) (i : Instr) (e : Effect) (g : Guest) → is_plain i ≡ true → has_access i ≡ false → acts rights i e g ≡ Goes (onward (put_written (written i) e g.locs) g)
+RowsPutFields = (rights : Rights) (i : Instr) (e : Effect) (g : Guest) → is_plain i ≡ true → has_access i ≡ false → guest_acts rights i e g ≡ Goes (at_next (put_written (written i) e g.locs) g)
 
 abbrev pub AccessesPutFields : Type 0
 AccessesPutFields =
     (rights : Rights) (i : Instr) (e : Effect) (g : Guest) → is_plain i ≡ true → has_access i ≡ true →
-    acts rights i e g ≡ (if reaches rights i e then Goes (record (onward (put_written (written i) e g.locs) g) { bytes = stored_bytes i e g.bytes }) else Ends Outside)
+    guest_acts rights i e g ≡ (if reaches rights i e then Goes (record (at_next (put_written (written i) e g.locs) g) { bytes = stored_bytes i e g.bytes }) else Ends Outside)
 
 -- The branch that ends a window puts what the table says, and goes to its target or to the next word.
 abbrev pub BranchesPutFields : Type 0
 BranchesPutFields =
     (rights : Rights) (bo bi target : ℕ) (absolute : Bool) (e : Effect) (g : Guest) →
-    let i = BranchConditional bo bi target absolute false in acts rights i e g ≡ Goes (branches (put_written (written i) e g.locs) e.taken (target_at i g.next) g)
+    let i = BranchConditional bo bi target absolute false in guest_acts rights i e g ≡ Goes (branches (put_written (written i) e g.locs) e.taken (target_at i g.next) g)
 
 -- A load has as many bytes as the table says.
 abbrev pub LoadsHaveWidths : Type 0

@@ -12,7 +12,7 @@ use Rattle.ia_codec.specs.Effect.{Flags, HostValues, HostEffect}
 use Rattle.ia_codec.specs.Rows.{host_row}
 use Rattle.reg_map.specs.Registers.{eax, ecx, edx}
 use Rattle.machines.specs.Memory.{Rights, update}
-use Rattle.machines.specs.Host.{Choice, Core, place_of, address_in, byte_for, puts_both, values_of, reads, puts, bind, does, extend_size}
+use Rattle.machines.specs.Host.{Choice, Core, place_of, address_in, byte_for, puts_both, host_values, reads, puts, bind, does, extend_size}
 use Rattle.rule_body.specs.Ops.{is_straight}
 
 -- 0, an operand of so many bytes, the op's own immediate, cl, or the address of an operand
@@ -173,7 +173,7 @@ module _ (rights : Rights) where
 
   -- the op by its sources, its row and its destination
   abbrev pub shaped : Op → Choice → Core → Option Core
-  shaped op c core = bind (source_value (x_source op) op core) (λ x. bind (source_value (y_source op) op core) (λ y. put_result (destination op) (host_row op (values_of c core x y)) core))
+  shaped op c core = bind (source_value (x_source op) op core) (λ x. bind (source_value (y_source op) op core) (λ y. put_result (destination op) (host_row op (host_values c core x y)) core))
 
 -- An op of a body does what the table says.
 abbrev pub OpsHaveShapes : Type 0

@@ -6,7 +6,7 @@ use Rattle.ppc_isa.specs.Locations.{locations_written}
 use Rattle.ia_codec.specs.declared.op.Condition.{Condition}
 use Rattle.runs.specs.Machine.{Outcome, Goes, Asks, Ends}
 use Rattle.machines.specs.Memory.{Rights}
-use Rattle.machines.specs.Guest.{Guest, effect_of, acts}
+use Rattle.machines.specs.Guest.{Guest, effect_of, guest_acts}
 use Rattle.symbolic_tiles.specs.Row.{Window, loaded, stored}
 use Rattle.simulation.specs.Windows.{rows_of}
 
@@ -23,17 +23,17 @@ behind_row none rest (Ends e) = none
 -- the addresses of the bytes that the rows load and store in turn, where each of them may
 unfoldable pub loads_of : List Instr → Guest → List ℕ
 loads_of [] g = []
-loads_of (i ∷ is) g = let e = effect_of i g in loaded e.kind e.width e.address ++ behind_row [] (loads_of is) (acts everywhere i e g)
+loads_of (i ∷ is) g = let e = effect_of i g in loaded e.kind e.width e.address ++ behind_row [] (loads_of is) (guest_acts everywhere i e g)
 
 unfoldable pub stores_of : List Instr → Guest → List ℕ
 stores_of [] g = []
-stores_of (i ∷ is) g = let e = effect_of i g in stored e.kind e.width e.address ++ behind_row [] (stores_of is) (acts everywhere i e g)
+stores_of (i ∷ is) g = let e = effect_of i g in stored e.kind e.width e.address ++ behind_row [] (stores_of is) (guest_acts everywhere i e g)
 
 -- whether the last of them is a branch that is taken
 unfoldable pub taken_of : List Instr → Guest → Bool
 taken_of [] g = false
 taken_of (i ∷ []) g = (effect_of i g).taken
-taken_of (i ∷ j ∷ is) g = behind_row false (taken_of (j ∷ is)) (acts everywhere i (effect_of i g) g)
+taken_of (i ∷ j ∷ is) g = behind_row false (taken_of (j ∷ is)) (guest_acts everywhere i (effect_of i g) g)
 
 -- what the instructions do together, where these locations are dead behind them and a last branch's condition is left in
 -- the flags

@@ -13,7 +13,7 @@ use Rattle.ia_codec.specs.declared.op.Op.TheVariants.{Lea}
 use Rattle.reg_map.specs.Home.{home, home_size, location_range}
 use Rattle.reg_map.specs.Place.{slot_of}
 use Rattle.machines.specs.Memory.{update, Rights}
-use Rattle.machines.specs.Guest.{Guest, onward}
+use Rattle.machines.specs.Guest.{Guest, at_next}
 use Rattle.machines.specs.Host.{Core, Memory, value_at}
 use Rattle.machines.specs.Representation.{in_slot, location_place}
 use Rattle.symbolic_tiles.specs.Relocated.{op_at}
@@ -109,7 +109,7 @@ module _ (own : Map) (area : ℕ) (is_own : IsOwnMap (template_of add_goal).slot
     words r = ⊎_elim (λ (e : r ≡ 3). subst (λ k. end.regs k < 2 ^ 32) (sym e) (subst (λ v. v < 2 ^ 32) (sym (update_same core.regs 3 ((core.regs 6 + core.regs 7 * 2 ^ 0 + 0) % 2 ^ 32))) (omega arith)))
         (λ ne. subst (λ v. v < 2 ^ 32) (sym (update_other core.regs 3 ((core.regs 6 + core.regs 7 * 2 ^ 0 + 0) % 2 ^ 32) r ne)) (ready.is_core.words r)) (is_same r 3)
 
-    addition_done : TilePostcondition (window (addition ∷ []) dead None) own area guest g (onward after g) core end
+    addition_done : TilePostcondition (window (addition ∷ []) dead None) own area guest g (at_next after g) core end
     addition_done = record {
       represents = record { locs = λ x lx alive. locs x lx; bytes = ready.represents.bytes };
       in_range = λ x lx. subst (λ v. v < location_range x) (sym (locs x lx)) (ranges x lx);
@@ -122,7 +122,7 @@ module _ (own : Map) (area : ℕ) (is_own : IsOwnMap (template_of add_goal).slot
   addition_does : (dead : ℕ → Bool) → Implements (window (addition ∷ []) dead None) own area (Lea 3 (Pair 6 7 0 0) ∷ [])
   unfolding total
   addition_does dead guest host g g' core choices ready goes =
-      subst (λ k. TilePostcondition (window (addition ∷ []) dead None) own area guest g k core (end dead guest host g core ready)) (same_guest (onward (after dead guest host g core ready) g) g' goes) (addition_done dead guest host g core ready)
+      subst (λ k. TilePostcondition (window (addition ∷ []) dead None) own area guest g k core (end dead guest host g core ready)) (same_guest (at_next (after dead guest host g core ready) g) g' goes) (addition_done dead guest host g core ready)
 
   addition_accesses : (dead : ℕ → Bool) → AccessWindow (window (addition ∷ []) dead None) own area (Lea 3 (Pair 6 7 0 0) ∷ [])
   unfolding accessed loads_of stores_of

@@ -9,7 +9,7 @@ use Rattle.ppc_isa.specs.AccessRows.{loads, stores, half_extended, half_reversed
 use Rattle.ppc_isa.specs.SumRows.{sum}
 use Rattle.ppc_isa.specs.Rows.{guest_row}
 use Rattle.machines.specs.Memory.{update, store_big, each_byte, Rights}
-use Rattle.machines.specs.Guest.{Guest, effect_of, acts, onward, behind, branch_target, branches, linked, results, put_cr, put_xer, put_special, cr_word, xer_word, value_a, value_b, value_s, values_of, loaded_in, lr, ctr}
+use Rattle.machines.specs.Guest.{Guest, effect_of, guest_acts, at_next, behind, branch_target, branches, linked, results, put_cr, put_xer, put_special, cr_word, xer_word, value_a, value_b, value_s, guest_values, loaded_in, lr, ctr}
 use Rattle.symbolic_tiles.specs.Row.{loaded, stored}
 use Rattle.simulation.specs.Windows.{then_row, rows_of}
 use Rattle.rule_meaning.specs.Matches.{Match, base_field}
@@ -59,7 +59,7 @@ zero_row (StoreIndexed Sthbrx s zero b) e v x = refl
 zero_row (StoreIndexed op s (suc a) b) e v x = absurd cc
 zero_row _ e v x = absurd cc
 
-zero_acts : (rights : Rights) (i : Instr) → base_field i ≡ Some 0 → (e : Effect) (x : ℕ) (g : Guest) → acts rights i (record e { a = x }) g ≡ acts rights i e g
+zero_acts : (rights : Rights) (i : Instr) → base_field i ≡ Some 0 → (e : Effect) (x : ℕ) (g : Guest) → guest_acts rights i (record e { a = x }) g ≡ guest_acts rights i e g
 zero_acts rights (Immediate op d a imm) z e x g = refl
 zero_acts rights (Load op d a imm) z e x g = refl
 zero_acts rights (Store op s a imm) z e x g = refl
@@ -337,7 +337,7 @@ module _ (m : Match) (P : ℕ → Type 0) where
       xers = let e0 = r.others 42 (omega arith) (omega arith) in let e1 = r.others 43 (omega arith) (omega arith) in let e2 = r.others 44 (omega arith) (omega arith) in let e3 = r.others 45 (omega arith) (omega arith) in
           omega (arith, e0, e1, e2, e3)
 
-      values_same : (i : Instr) (loaded loaded' : ℕ) → IsNamedWord i → loaded ≡ loaded' → values_of (bound m.gpr i) loaded l ≡ record (values_of i loaded' l0) { a = value_a (bound m.gpr i) l }
+      values_same : (i : Instr) (loaded loaded' : ℕ) → IsNamedWord i → loaded ≡ loaded' → guest_values (bound m.gpr i) loaded l ≡ record (guest_values i loaded' l0) { a = value_a (bound m.gpr i) l }
       values_same i loaded loaded' named e =
           ap (λ x. with_values (value_a (bound m.gpr i) l) x (value_s (bound m.gpr i) l) (cr_word l) (xer_word l) (l lr) (l ctr) loaded) (value_b_same i named)
           ∙ ap (λ x. with_values (value_a (bound m.gpr i) l) (value_b i l0) x (cr_word l) (xer_word l) (l lr) (l ctr) loaded) (value_s_same i named)
@@ -410,10 +410,10 @@ module _ (m : Match) (P : ℕ → Type 0) where
     EffectIs i e e0 x = (e ≡ e0) ⊎ ((base_field i ≡ Some 0) × (e ≡ record e0 { a = x }))
 
     module _ (l l0 : ℕ → ℕ) (r : SameLocs start l l0) where
-      effect_is : (i : Instr) (k k0 : ℕ) → IsNamedWord i → k ≡ k0 → EffectIs i (guest_row (bound m.gpr i) (values_of (bound m.gpr i) k l)) (guest_row i (values_of i k0 l0)) (value_a (bound m.gpr i) l)
+      effect_is : (i : Instr) (k k0 : ℕ) → IsNamedWord i → k ≡ k0 → EffectIs i (guest_row (bound m.gpr i) (guest_values (bound m.gpr i) k l)) (guest_row i (guest_values i k0 l0)) (value_a (bound m.gpr i) l)
       effect_is i k k0 named e =
-          let v = row_same i (values_of (bound m.gpr i) k l) named ∙ ap (guest_row i) (values_same l l0 r i k k0 named e) in
-          ⊎_elim (λ (a : value_a (bound m.gpr i) l ≡ value_a i l0). inl (v ∙ ap (λ x. guest_row i (record (values_of i k0 l0) { a = x })) a)) (λ z. inr (z, v ∙ zero_row i z (values_of i k0 l0) (value_a (bound m.gpr i) l))) (value_a_same l l0 r i named)
+          let v = row_same i (guest_values (bound m.gpr i) k l) named ∙ ap (guest_row i) (values_same l l0 r i k k0 named e) in
+          ⊎_elim (λ (a : value_a (bound m.gpr i) l ≡ value_a i l0). inl (v ∙ ap (λ x. guest_row i (record (guest_values i k0 l0) { a = x })) a)) (λ z. inr (z, v ∙ zero_row i z (guest_values i k0 l0) (value_a (bound m.gpr i) l))) (value_a_same l l0 r i named)
 
     loaded_same : (i : Instr) (e e0 : Effect) (x : ℕ) (bytes : ℕ → ℕ) → EffectIs i e e0 x → loaded_in e bytes ≡ loaded_in e0 bytes
     loaded_same i e e0 x bytes (inl d) = ap (λ e. loaded_in e bytes) d
@@ -425,28 +425,28 @@ module _ (m : Match) (P : ℕ → Type 0) where
       pub width : e.width ≡ e0.width
       pub address : e.address ≡ e0.address
       pub taken : e.taken ≡ e0.taken
-      pub does : (rights : Rights) (g : Guest) → acts rights (bound m.gpr i) e g ≡ acts rights (bound m.gpr i) e0 g
+      pub does : (rights : Rights) (g : Guest) → guest_acts rights (bound m.gpr i) e g ≡ guest_acts rights (bound m.gpr i) e0 g
 
     same_effect : (i : Instr) (e e0 : Effect) (x : ℕ) → EffectIs i e e0 x → SameEffect i e e0
-    same_effect i e e0 x (inl d) = record { kind = ap (λ (e : Effect). e.kind) d; width = ap (λ (e : Effect). e.width) d; address = ap (λ (e : Effect). e.address) d; taken = ap (λ (e : Effect). e.taken) d; does = λ rights g. ap (λ e. acts rights (bound m.gpr i) e g) d }
+    same_effect i e e0 x (inl d) = record { kind = ap (λ (e : Effect). e.kind) d; width = ap (λ (e : Effect). e.width) d; address = ap (λ (e : Effect). e.address) d; taken = ap (λ (e : Effect). e.taken) d; does = λ rights g. ap (λ e. guest_acts rights (bound m.gpr i) e g) d }
     same_effect i e e0 x (inr d) = record {
       kind = ap (λ (e : Effect). e.kind) d.1;
       width = ap (λ (e : Effect). e.width) d.1;
       address = ap (λ (e : Effect). e.address) d.1;
       taken = ap (λ (e : Effect). e.taken) d.1;
-      does = λ rights g. ap (λ e. acts rights (bound m.gpr i) e g) d.1 ∙ zero_acts rights (bound m.gpr i) (zero_bound m.gpr i d.0) e0 x g;
+      does = λ rights g. ap (λ e. guest_acts rights (bound m.gpr i) e g) d.1 ∙ zero_acts rights (bound m.gpr i) (zero_bound m.gpr i d.0) e0 x g;
     }
 
     -- both go on to guests that are the same again
-    goes_same : (after after0 : ℕ → ℕ) (g g0 : Guest) → SameLocs start after after0 → SameGuest start g g0 → SameGuest start (onward after g) (onward after0 g0)
+    goes_same : (after after0 : ℕ → ℕ) (g g0 : Guest) → SameLocs start after after0 → SameGuest start g g0 → SameGuest start (at_next after g) (at_next after0 g0)
     goes_same after after0 g g0 locs r = record { locs = locs; next = ap behind r.next; bytes = r.bytes }
 
-    loads_alike : (b : Bool) (after after0 : ℕ → ℕ) (g g0 : Guest) → SameLocs start after after0 → SameGuest start g g0 → SameOutcome start (cond b (Goes (onward after g)) (Ends Outside)) (cond b (Goes (onward after0 g0)) (Ends Outside))
+    loads_alike : (b : Bool) (after after0 : ℕ → ℕ) (g g0 : Guest) → SameLocs start after after0 → SameGuest start g g0 → SameOutcome start (cond b (Goes (at_next after g)) (Ends Outside)) (cond b (Goes (at_next after0 g0)) (Ends Outside))
     loads_alike true after after0 g g0 locs r = goes_same after after0 g g0 locs r
     loads_alike false after after0 g g0 locs r = refl
 
     stores_alike : (b : Bool) (e : Effect) (after after0 : ℕ → ℕ) (g g0 : Guest) → SameLocs start after after0 → SameGuest start g g0 →
-        SameOutcome start (cond b (Goes (record (onward after g) { bytes = store_big e.width e.address e.stored g.bytes })) (Ends Outside)) (cond b (Goes (record (onward after0 g0) { bytes = store_big e.width e.address e.stored g0.bytes })) (Ends Outside))
+        SameOutcome start (cond b (Goes (record (at_next after g) { bytes = store_big e.width e.address e.stored g.bytes })) (Ends Outside)) (cond b (Goes (record (at_next after0 g0) { bytes = store_big e.width e.address e.stored g0.bytes })) (Ends Outside))
     stores_alike true e after after0 g g0 locs r = record { locs = locs; next = ap behind r.next; bytes = ap (store_big e.width e.address e.stored) r.bytes }
     stores_alike false e after after0 g g0 locs r = refl
 
@@ -455,7 +455,7 @@ module _ (m : Match) (P : ℕ → Type 0) where
     branch_same true e target absolute g g0 unlinked r = absurd cc
     branch_same false e target absolute g g0 unlinked r = record { locs = put_far 33 e.ctr g.locs g0.locs (omega arith) r.locs; next = ap (λ w. cond e.taken (branch_target 14 target absolute w) (behind w)) r.next; bytes = r.bytes }
 
-    acts_same : (rights : Rights) (i : Instr) (e : Effect) (g g0 : Guest) → IsNamedWord i → SameGuest start g g0 → SameOutcome start (acts rights (bound m.gpr i) e g) (acts rights i e g0)
+    acts_same : (rights : Rights) (i : Instr) (e : Effect) (g g0 : Guest) → IsNamedWord i → SameGuest start g g0 → SameOutcome start (guest_acts rights (bound m.gpr i) e g) (guest_acts rights i e g0)
     acts_same rights (Immediate op d a imm) e g g0 named r = goes_same _ _ g g0 (results_same (immediate_carries op) (immediate_records op) d e.d e g.locs g0.locs named.0 r.locs) r
     acts_same rights (LogicImmediate op s a imm) e g g0 named r = goes_same _ _ g g0 (results_same false (logic_immediate_records op) a e.a e g.locs g0.locs named.1 r.locs) r
     acts_same rights (CompareImmediate op field a imm) e g g0 named r = goes_same _ _ g g0 (cr_same e.cr g.locs g0.locs r.locs) r
@@ -489,12 +489,12 @@ module _ (m : Match) (P : ℕ → Type 0) where
       effects : SameEffect i (effect_of (bound m.gpr i) g) (effect_of i g0)
       effects =
           let first = effect_is g.locs g0.locs r.locs i 0 0 named refl in
-          let k = loaded_same i (guest_row (bound m.gpr i) (values_of (bound m.gpr i) 0 g.locs)) (guest_row i (values_of i 0 g0.locs)) (value_a (bound m.gpr i) g.locs) g.bytes first ∙ ap (loaded_in (guest_row i (values_of i 0 g0.locs))) r.bytes in
+          let k = loaded_same i (guest_row (bound m.gpr i) (guest_values (bound m.gpr i) 0 g.locs)) (guest_row i (guest_values i 0 g0.locs)) (value_a (bound m.gpr i) g.locs) g.bytes first ∙ ap (loaded_in (guest_row i (guest_values i 0 g0.locs))) r.bytes in
           same_effect i _ _ (value_a (bound m.gpr i) g.locs) (effect_is g.locs g0.locs r.locs i _ _ named k)
 
       -- an instruction by the other names
-      word_renamed : (rights : Rights) → SameOutcome start (acts rights (bound m.gpr i) (effect_of (bound m.gpr i) g) g) (acts rights i (effect_of i g0) g0)
-      word_renamed rights = subst (λ o. SameOutcome start o (acts rights i (effect_of i g0) g0)) (sym (effects.does rights g)) (acts_same rights i (effect_of i g0) g g0 named r)
+      word_renamed : (rights : Rights) → SameOutcome start (guest_acts rights (bound m.gpr i) (effect_of (bound m.gpr i) g) g) (guest_acts rights i (effect_of i g0) g0)
+      word_renamed rights = subst (λ o. SameOutcome start o (guest_acts rights i (effect_of i g0) g0)) (sym (effects.does rights g)) (acts_same rights i (effect_of i g0) g g0 named r)
 
       loaded_alike : loaded (effect_of (bound m.gpr i) g).kind (effect_of (bound m.gpr i) g).width (effect_of (bound m.gpr i) g).address ≡ loaded (effect_of i g0).kind (effect_of i g0).width (effect_of i g0).address
       loaded_alike =
@@ -512,7 +512,7 @@ module _ (m : Match) (P : ℕ → Type 0) where
     -- words one after another go on alike
     pub words_renamed : (rights : Rights) (is : List Instr) (g g0 : Guest) → AreNamedWords is → SameGuest start g g0 → SameOutcome start (rows_of rights (named_words is) g) (rows_of rights is g0)
     words_renamed rights [] g g0 named r = r
-    words_renamed rights (i ∷ is) g g0 named r = by_outcome (λ x y s. words_renamed rights is x y named.1 s) (acts rights (bound m.gpr i) (effect_of (bound m.gpr i) g) g) (acts rights i (effect_of i g0) g0) (word_renamed i g g0 named.0 r rights)
+    words_renamed rights (i ∷ is) g g0 named r = by_outcome (λ x y s. words_renamed rights is x y named.1 s) (guest_acts rights (bound m.gpr i) (effect_of (bound m.gpr i) g) g) (guest_acts rights i (effect_of i g0) g0) (word_renamed i g g0 named.0 r rights)
       where
         by_outcome : ((x y : Guest) → SameGuest start x y → SameOutcome start (rows_of rights (named_words is) x) (rows_of rights is y)) → (o o0 : Outcome Guest) → SameOutcome start o o0 → SameOutcome start (then_row (rows_of rights (named_words is)) o) (then_row (rows_of rights is) o0)
         by_outcome rest (Goes x) (Goes y) s = rest x y s
@@ -538,14 +538,14 @@ module _ (m : Match) (P : ℕ → Type 0) where
     unfolding loads_of
     loads_renamed [] g g0 named r = refl
     loads_renamed (i ∷ is) g g0 named r =
-        ap (λ l. l ++ behind_row [] (loads_of (named_words is)) (acts everywhere (bound m.gpr i) (effect_of (bound m.gpr i) g) g)) (loaded_alike i g g0 named.0 r)
+        ap (λ l. l ++ behind_row [] (loads_of (named_words is)) (guest_acts everywhere (bound m.gpr i) (effect_of (bound m.gpr i) g) g)) (loaded_alike i g g0 named.0 r)
         ∙ ap (λ l. loaded (effect_of i g0).kind (effect_of i g0).width (effect_of i g0).address ++ l) (behind_same [] (loads_of (named_words is)) (loads_of is) (λ x y s. loads_renamed is x y named.1 s) _ _ (word_renamed i g g0 named.0 r everywhere))
 
     pub stores_renamed : (is : List Instr) (g g0 : Guest) → AreNamedWords is → SameGuest start g g0 → stores_of (named_words is) g ≡ stores_of is g0
     unfolding stores_of
     stores_renamed [] g g0 named r = refl
     stores_renamed (i ∷ is) g g0 named r =
-        ap (λ l. l ++ behind_row [] (stores_of (named_words is)) (acts everywhere (bound m.gpr i) (effect_of (bound m.gpr i) g) g)) (stored_alike i g g0 named.0 r)
+        ap (λ l. l ++ behind_row [] (stores_of (named_words is)) (guest_acts everywhere (bound m.gpr i) (effect_of (bound m.gpr i) g) g)) (stored_alike i g g0 named.0 r)
         ∙ ap (λ l. stored (effect_of i g0).kind (effect_of i g0).width (effect_of i g0).address ++ l) (behind_same [] (stores_of (named_words is)) (stores_of is) (λ x y s. stores_renamed is x y named.1 s) _ _ (word_renamed i g g0 named.0 r everywhere))
 
     pub taken_renamed : (is : List Instr) (g g0 : Guest) → AreNamedWords is → SameGuest start g g0 → taken_of (named_words is) g ≡ taken_of is g0

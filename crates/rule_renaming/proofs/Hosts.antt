@@ -13,7 +13,7 @@ use Rattle.ia_codec.specs.Effect.{Flags, HostValues, HostEffect}
 use Rattle.ia_codec.specs.Rows.{host_row}
 use Rattle.runs.specs.Machine.{Outcome}
 use Rattle.machines.specs.Memory.{update, load, store, each_byte, Rights}
-use Rattle.machines.specs.Host.{Choice, Core, Host, Place, Register, Memory, place_of, put_at, values_of, chosen_word, chosen_flags, has_result, extend_size, address_in, byte_for, puts_both, bind, reads, puts, leaves, does, choice_at, goes_to}
+use Rattle.machines.specs.Host.{Choice, Core, Host, Place, Register, Memory, place_of, put_at, host_values, chosen_word, chosen_flags, has_result, extend_size, address_in, byte_for, puts_both, bind, reads, puts, leaves, does, choice_at, goes_to}
 use Rattle.symbolic_tiles.specs.Perform.{is_jump, op_outcome, core_behind, perform}
 use Rattle.symbolic_tiles.specs.Relocated.{operand_at, op_at}
 use Rattle.symbolic_tiles.specs.Row.{span}
@@ -274,7 +274,7 @@ module _ (m : Match) (area : ℕ) (host : Rights) (U O : ℕ → Type 0) where
         subst (λ a. Both R (puts host core (Memory size a) v) (puts host other (Memory size ((other.regs b + other.regs x * 2 ^ s + d) % 2 ^ 32)) v)) (sym (pair_same b x s d core other own.0 own.1 r1)) (put_far size ((other.regs b + other.regs x * 2 ^ s + d) % 2 ^ 32) v core other far r1)
 
     -- what is told of an op's values is the same
-    values_same : (c : Choice) (x y : ℕ) (core other : Core) → R core other → values_of c core x y ≡ values_of c other x y
+    values_same : (c : Choice) (x y : ℕ) (core other : Core) → R core other → host_values c core x y ≡ host_values c other x y
     values_same c x y core other r1 = ap2v (core.regs 2) (other.regs 2) (r1.regs 2 (names.temps 2 (omega arith))) core.flags other.flags r1.flags
       where
         ap2v : (h k : ℕ) → h ≡ k → (f g : Flags) → f ≡ g → values_with c x y h f ≡ values_with c x y k g
@@ -292,33 +292,33 @@ module _ (m : Match) (area : ℕ) (host : Rights) (U O : ℕ → Type 0) where
 
     -- an op that reads and writes its first operand
     change : (F : HostValues → HostEffect) (b : Bool) (c : Choice) (size : ℕ) (operand : Operand) (core other : Core) (p q : Option ℕ) → IsOwn size operand → R core other → p ≡ q →
-        Both R (bind (reads host core (there size operand core)) (λ x. bind p (λ y. leaves host b (F (values_of c core x y)) (there size operand core) core))) (bind (reads host other (here size operand other)) (λ x. bind q (λ y. leaves host b (F (values_of c other x y)) (here size operand other) other)))
+        Both R (bind (reads host core (there size operand core)) (λ x. bind p (λ y. leaves host b (F (host_values c core x y)) (there size operand core) core))) (bind (reads host other (here size operand other)) (λ x. bind q (λ y. leaves host b (F (host_values c other x y)) (here size operand other) other)))
     change F b c size operand core other p q own r1 e =
-        subst (λ o. Both R (bind o (λ x. bind p (λ y. leaves host b (F (values_of c core x y)) (there size operand core) core))) (bind (reads host other (here size operand other)) (λ x. bind q (λ y. leaves host b (F (values_of c other x y)) (here size operand other) other)))) (sym (read_own size operand core other own r1))
-        (subst (λ o. Both R (bind (reads host other (here size operand other)) (λ x. bind o (λ y. leaves host b (F (values_of c core x y)) (there size operand core) core))) (bind (reads host other (here size operand other)) (λ x. bind q (λ y. leaves host b (F (values_of c other x y)) (here size operand other) other)))) (sym e)
+        subst (λ o. Both R (bind o (λ x. bind p (λ y. leaves host b (F (host_values c core x y)) (there size operand core) core))) (bind (reads host other (here size operand other)) (λ x. bind q (λ y. leaves host b (F (host_values c other x y)) (here size operand other) other)))) (sym (read_own size operand core other own r1))
+        (subst (λ o. Both R (bind (reads host other (here size operand other)) (λ x. bind o (λ y. leaves host b (F (host_values c core x y)) (there size operand core) core))) (bind (reads host other (here size operand other)) (λ x. bind q (λ y. leaves host b (F (host_values c other x y)) (here size operand other) other)))) (sym e)
         (by_values (reads host other (here size operand other)) q))
       where
-        by_values : (o q : Option ℕ) → Both R (bind o (λ x. bind q (λ y. leaves host b (F (values_of c core x y)) (there size operand core) core))) (bind o (λ x. bind q (λ y. leaves host b (F (values_of c other x y)) (here size operand other) other)))
+        by_values : (o q : Option ℕ) → Both R (bind o (λ x. bind q (λ y. leaves host b (F (host_values c core x y)) (there size operand core) core))) (bind o (λ x. bind q (λ y. leaves host b (F (host_values c other x y)) (here size operand other) other)))
         by_values None q = tt
         by_values (Some x) None = tt
-        by_values (Some x) (Some y) = subst (λ v. Both R (leaves host b (F v) (there size operand core) core) (leaves host b (F (values_of c other x y)) (here size operand other) other)) (sym (values_same c x y core other r1)) (leave b (F (values_of c other x y)) size operand core other own r1)
+        by_values (Some x) (Some y) = subst (λ v. Both R (leaves host b (F v) (there size operand core) core) (leaves host b (F (host_values c other x y)) (here size operand other) other)) (sym (values_same c x y core other r1)) (leave b (F (host_values c other x y)) size operand core other own r1)
 
     -- and one that only writes it
     sets_it : (F : HostValues → HostEffect) (c : Choice) (size : ℕ) (operand : Operand) (core other : Core) (p q : Option ℕ) → IsWithin size operand → AreFar area (summed size (operand_at area operand) other.regs) → R core other → p ≡ q →
-        Both R (bind p (λ y. leaves host true (F (values_of c core 0 y)) (there size operand core) core)) (bind q (λ y. leaves host true (F (values_of c other 0 y)) (here size operand other) other))
+        Both R (bind p (λ y. leaves host true (F (host_values c core 0 y)) (there size operand core) core)) (bind q (λ y. leaves host true (F (host_values c other 0 y)) (here size operand other) other))
     sets_it F c size operand core other p q own far r1 e =
-        subst (λ o. Both R (bind o (λ y. leaves host true (F (values_of c core 0 y)) (there size operand core) core)) (bind q (λ y. leaves host true (F (values_of c other 0 y)) (here size operand other) other))) (sym e) (by_value q)
+        subst (λ o. Both R (bind o (λ y. leaves host true (F (host_values c core 0 y)) (there size operand core) core)) (bind q (λ y. leaves host true (F (host_values c other 0 y)) (here size operand other) other))) (sym e) (by_value q)
       where
-        by_value : (q : Option ℕ) → Both R (bind q (λ y. leaves host true (F (values_of c core 0 y)) (there size operand core) core)) (bind q (λ y. leaves host true (F (values_of c other 0 y)) (here size operand other) other))
+        by_value : (q : Option ℕ) → Both R (bind q (λ y. leaves host true (F (host_values c core 0 y)) (there size operand core) core)) (bind q (λ y. leaves host true (F (host_values c other 0 y)) (here size operand other) other))
         by_value None = tt
         by_value (Some y) =
-            let v = F (values_of c other 0 y) in
+            let v = F (host_values c other 0 y) in
             subst (λ k. Both R (leaves host true (F k) (there size operand core) core) (leaves host true v (here size operand other) other)) (sym (values_same c 0 y core other r1))
             (put size operand v.result (flagged v.flags core) (flagged v.flags other) own far (with_flags v.flags core other r1))
 
     -- in a register or a home
     sets_own : (F : HostValues → HostEffect) (c : Choice) (size : ℕ) (operand : Operand) (core other : Core) (p q : Option ℕ) → IsOwn size operand → R core other → p ≡ q →
-        Both R (bind p (λ y. leaves host true (F (values_of c core 0 y)) (there size operand core) core)) (bind q (λ y. leaves host true (F (values_of c other 0 y)) (here size operand other) other))
+        Both R (bind p (λ y. leaves host true (F (host_values c core 0 y)) (there size operand core) core)) (bind q (λ y. leaves host true (F (host_values c other 0 y)) (here size operand other) other))
     sets_own F c size (Reg r) core other p q own r1 e = sets_it F c size (Reg r) core other p q own (λ a k. none_in a k) r1 e
     sets_own F c size (Abs o) core other p q own r1 e = sets_it F c size (Abs o) core other p q own (λ a k. none_in a k) r1 e
     sets_own F c size (Base b d) core other p q own r1 e = absurd own
@@ -331,14 +331,14 @@ module _ (m : Match) (area : ℕ) (host : Rights) (U O : ℕ → Type 0) where
     byte_same (Pair b x s d) core other v own r1 = absurd own
 
     sets_byte_it : (F : HostValues → HostEffect) (c : Choice) (operand : Operand) (core other : Core) (p q : Option ℕ) → IsOwn 1 operand → R core other → p ≡ q →
-        Both R (bind p (λ y. puts host core (there 1 operand core) (byte_for (operand_at area (placed_operand m operand)) core (F (values_of c core 0 y)).result))) (bind q (λ y. puts host other (here 1 operand other) (byte_for (operand_at area operand) other (F (values_of c other 0 y)).result)))
+        Both R (bind p (λ y. puts host core (there 1 operand core) (byte_for (operand_at area (placed_operand m operand)) core (F (host_values c core 0 y)).result))) (bind q (λ y. puts host other (here 1 operand other) (byte_for (operand_at area operand) other (F (host_values c other 0 y)).result)))
     sets_byte_it F c operand core other p q own r1 e =
-        subst (λ o. Both R (bind o (λ y. puts host core (there 1 operand core) (byte_for (operand_at area (placed_operand m operand)) core (F (values_of c core 0 y)).result))) (bind q (λ y. puts host other (here 1 operand other) (byte_for (operand_at area operand) other (F (values_of c other 0 y)).result)))) (sym e) (by_value q)
+        subst (λ o. Both R (bind o (λ y. puts host core (there 1 operand core) (byte_for (operand_at area (placed_operand m operand)) core (F (host_values c core 0 y)).result))) (bind q (λ y. puts host other (here 1 operand other) (byte_for (operand_at area operand) other (F (host_values c other 0 y)).result)))) (sym e) (by_value q)
       where
-        by_value : (q : Option ℕ) → Both R (bind q (λ y. puts host core (there 1 operand core) (byte_for (operand_at area (placed_operand m operand)) core (F (values_of c core 0 y)).result))) (bind q (λ y. puts host other (here 1 operand other) (byte_for (operand_at area operand) other (F (values_of c other 0 y)).result)))
+        by_value : (q : Option ℕ) → Both R (bind q (λ y. puts host core (there 1 operand core) (byte_for (operand_at area (placed_operand m operand)) core (F (host_values c core 0 y)).result))) (bind q (λ y. puts host other (here 1 operand other) (byte_for (operand_at area operand) other (F (host_values c other 0 y)).result)))
         by_value None = tt
         by_value (Some y) =
-            let v = (F (values_of c other 0 y)).result in
+            let v = (F (host_values c other 0 y)).result in
             let d = ap (λ (v : HostValues). byte_for (operand_at area (placed_operand m operand)) core (F v).result) (values_same c 0 y core other r1) ∙ byte_same operand core other v own r1 in
             subst (λ k. Both R (puts host core (there 1 operand core) k) (puts host other (here 1 operand other) (byte_for (operand_at area operand) other v))) (sym d) (put_own 1 operand (byte_for (operand_at area operand) other v) core other own r1)
 
@@ -349,14 +349,14 @@ module _ (m : Match) (area : ℕ) (host : Rights) (U O : ℕ → Type 0) where
         (put_own 4 (Reg 0) e.result (flagged e.flags core) (flagged e.flags other) (names.temps 0 (omega arith)) (with_flags e.flags core other r1))
 
     multiplies_it : (F : HostValues → HostEffect) (c : Choice) (core other : Core) (p q : Option ℕ) → R core other → p ≡ q →
-        Both R (bind p (λ y. Some (puts_both (F (values_of c core (core.regs 0) y)) core))) (bind q (λ y. Some (puts_both (F (values_of c other (other.regs 0) y)) other)))
-    multiplies_it F c core other p q r1 e = subst (λ o. Both R (bind o (λ y. Some (puts_both (F (values_of c core (core.regs 0) y)) core))) (bind q (λ y. Some (puts_both (F (values_of c other (other.regs 0) y)) other)))) (sym e) (by_value q)
+        Both R (bind p (λ y. Some (puts_both (F (host_values c core (core.regs 0) y)) core))) (bind q (λ y. Some (puts_both (F (host_values c other (other.regs 0) y)) other)))
+    multiplies_it F c core other p q r1 e = subst (λ o. Both R (bind o (λ y. Some (puts_both (F (host_values c core (core.regs 0) y)) core))) (bind q (λ y. Some (puts_both (F (host_values c other (other.regs 0) y)) other)))) (sym e) (by_value q)
       where
-        by_value : (q : Option ℕ) → Both R (bind q (λ y. Some (puts_both (F (values_of c core (core.regs 0) y)) core))) (bind q (λ y. Some (puts_both (F (values_of c other (other.regs 0) y)) other)))
+        by_value : (q : Option ℕ) → Both R (bind q (λ y. Some (puts_both (F (host_values c core (core.regs 0) y)) core))) (bind q (λ y. Some (puts_both (F (host_values c other (other.regs 0) y)) other)))
         by_value None = tt
         by_value (Some y) =
-            let d = values_same c (core.regs 0) y core other r1 ∙ ap (λ k. values_of c other k y) (r1.regs 0 (names.temps 0 (omega arith))) in
-            subst (λ v. R (puts_both (F v) core) (puts_both (F (values_of c other (other.regs 0) y)) other)) (sym d) (both_put (F (values_of c other (other.regs 0) y)) core other r1)
+            let d = values_same c (core.regs 0) y core other r1 ∙ ap (λ k. host_values c other k y) (r1.regs 0 (names.temps 0 (omega arith))) in
+            subst (λ v. R (puts_both (F v) core) (puts_both (F (host_values c other (other.regs 0) y)) other)) (sym d) (both_put (F (host_values c other (other.regs 0) y)) core other r1)
 
     reg : (r : ℕ) (core other : Core) → U r → R core other → Some (core.regs (register_of m r)) ≡ Some (other.regs r)
     reg r core other u r1 = ap Some (r1.regs r u)
@@ -402,8 +402,8 @@ module _ (m : Match) (area : ℕ) (host : Rights) (U O : ℕ → Type 0) where
     op_renamed (Cmov condition to from) c core other named far r1 = change (host_row (Cmov condition to from)) true c 4 (Reg to) core other _ _ named.0 r1 (read_own 4 from core other named.1 r1)
     op_renamed (Bsr to from) c core other named far r1 = change (host_row (Bsr to from)) true c 4 (Reg to) core other _ _ named.0 r1 (read_own 4 from core other named.1 r1)
     op_renamed Cdq c core other named far r1 =
-        let e = ap (λ (v : HostValues). (host_row Cdq v).high) (values_same c (core.regs 0) 0 core other r1 ∙ ap (λ k. values_of c other k 0) (r1.regs 0 (names.temps 0 (omega arith)))) in
-        subst (λ k. Both R (puts host core (Register 2) k) (puts host other (Register 2) (host_row Cdq (values_of c other (other.regs 0) 0)).high)) (sym e) (put_own 4 (Reg 2) (host_row Cdq (values_of c other (other.regs 0) 0)).high core other (names.temps 2 (omega arith)) r1)
+        let e = ap (λ (v : HostValues). (host_row Cdq v).high) (values_same c (core.regs 0) 0 core other r1 ∙ ap (λ k. host_values c other k 0) (r1.regs 0 (names.temps 0 (omega arith)))) in
+        subst (λ k. Both R (puts host core (Register 2) k) (puts host other (Register 2) (host_row Cdq (host_values c other (other.regs 0) 0)).high)) (sym e) (put_own 4 (Reg 2) (host_row Cdq (host_values c other (other.regs 0) 0)).high core other (names.temps 2 (omega arith)) r1)
     op_renamed _ c core other named far r1 = absurd named
 
     -- what it accesses is the same

@@ -10,7 +10,7 @@ use Rattle.reg_map.specs.Home.{location_range}
 use Rattle.symbolic_tiles.specs.declared.flow_op.FlowOp.{FlowOp}
 use Rattle.runs.specs.Machine.{Outcome, Goes, Asks, Ends, Anywhere}
 use Rattle.runs.specs.Simulation.{Walks, stays, walks, onward, called, over, lost}
-use Rattle.machines.specs.Guest.{Guest, executes}
+use Rattle.machines.specs.Guest.{Guest, guest_executes}
 use Rattle.machines.specs.Host.{Core, Host}
 use Rattle.symbolic_tiles.specs.Flow.{leap_target, Exit, Leaves, Leaps, Stops, Calls, Falls, IsBefore, IsBehind, FitsGoing, Fits, flow}
 use Rattle.symbolic_tiles.specs.Standing.{EdgeCode, Reaches}
@@ -171,5 +171,5 @@ module _ (s : SimulationContext) (t : IsTranslation s) where
         in_range = full_in_range s map g h.core matches;
         is_core = matches.is_core;
       } in
-      by_exit s t map matches.is_map st.labels st.edges st.leaps st.edges_stand st.leaps_stand p q (length items) g h (executes s.guest word g) (executes s.guest word shown) (flow s.host s.area items None h.choices h.core) lt_p le_q st.tile.few matches.unwritten (st.tile.fetched g refl) (t.live word g shown st.tile.fetched alike)
+      by_exit s t map matches.is_map st.labels st.edges st.leaps st.edges_stand st.leaps_stand p q (length items) g h (guest_executes s.guest word g) (guest_executes s.guest word shown) (flow s.host s.area items None h.choices h.core) lt_p le_q st.tile.few matches.unwritten (st.tile.fetched g refl) (t.live word g shown st.tile.fetched alike)
       (st.tile.fits shown h.core h.choices refl before) (flows_are_walked s.host s.area s.host_step st.labels st.edges st.leaps items None h.eip h st.stand refl)

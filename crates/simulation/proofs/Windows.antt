@@ -4,7 +4,7 @@ use Rattle.space.specs.declared.call.End.TheVariants.{Outside}
 use Rattle.ppc_isa.specs.declared.instr.Instr.{Instr}
 use Rattle.runs.specs.Machine.{Outcome, Goes, Asks, Ends, Anywhere}
 use Rattle.runs.specs.Simulation.{Walks, stays, walks}
-use Rattle.machines.specs.Guest.{Guest, acts, effect_of, behind}
+use Rattle.machines.specs.Guest.{Guest, guest_acts, effect_of, behind}
 use Rattle.symbolic_tiles.specs.Straight.{IsStraight}
 use Rattle.simulation.specs.Windows.{then_row, rows_of, IsQuiet, IsLinked}
 use Rattle.simulation.specs.Context.{SimulationContext, IsWordAt, Alike, AreAlike, LiveIsEnough}
@@ -22,7 +22,7 @@ module _ (s : SimulationContext) where
 
   -- one word's row
   abbrev row : Instr → Guest → Outcome Guest
-  row i g = acts s.guest i (effect_of i g) g
+  row i g = guest_acts s.guest i (effect_of i g) g
 
   -- the guest walks through the words, or as far as to one whose step goes outside
   abbrev pub Passes : ℕ → Guest → Outcome Guest → Type 0

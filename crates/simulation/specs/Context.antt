@@ -10,7 +10,7 @@ use Rattle.ia_codec.specs.Rows.{condition_holds}
 use Rattle.reg_map.specs.Home.{location_count, location_range}
 use Rattle.runs.specs.Machine.{Outcome, Goes, Asks, Ends}
 use Rattle.machines.specs.Memory.{Rights, load}
-use Rattle.machines.specs.Guest.{Guest, executes}
+use Rattle.machines.specs.Guest.{Guest, guest_executes}
 use Rattle.machines.specs.Host.{Core, Host, value_at}
 use Rattle.machines.specs.Representation.{location_place, Represents}
 use Rattle.symbolic_tiles.specs.Row.{IsCore}
@@ -49,7 +49,7 @@ StepKeepsUnwritten rights before (Ends e) = Unit {0}
 module _ (s : SimulationContext) where
   -- a code word stands at a guest address: this instruction's, or an illegal one
   abbrev pub IsWordAt : ℕ → Option Instr → Type 0
-  IsWordAt a word = (g : Guest) → g.next ≡ a → s.guest_step g ≡ executes s.guest word g
+  IsWordAt a word = (g : Guest) → g.next ≡ a → s.guest_step g ≡ guest_executes s.guest word g
 
   -- no code word stands at a guest address
   abbrev pub IsOffCode : ℕ → Type 0
@@ -87,7 +87,7 @@ module _ (s : SimulationContext) where
 
   -- What isn't live before a word makes no difference: its row has the same outcome, but for what isn't live behind it.
   abbrev pub LiveIsEnough : Type 0
-  LiveIsEnough = (word : Option Instr) (g other : Guest) → IsWordAt g.next word → Alike g other → AreAlike (executes s.guest word g) (executes s.guest word other)
+  LiveIsEnough = (word : Option Instr) (g other : Guest) → IsWordAt g.next word → Alike g other → AreAlike (guest_executes s.guest word g) (guest_executes s.guest word other)
 
   -- The table of doors: a word for each code word, which can be read and not written. Off the code words the door is `hold`.
   pub record HasTable : Type 0 where

@@ -9,7 +9,7 @@ use Rattle.ia_codec.specs.declared.op.Operand.TheVariants.{Base}
 use Rattle.ia_codec.specs.declared.op.Op.TheVariants.{JmpTo}
 use Rattle.symbolic_tiles.specs.declared.flow_op.FlowOp.{FlowOp}
 use Rattle.runs.specs.Machine.{Goes}
-use Rattle.machines.specs.Guest.{Guest, executes, behind}
+use Rattle.machines.specs.Guest.{Guest, guest_executes, behind}
 use Rattle.machines.specs.Host.{Choice, Core}
 use Rattle.symbolic_tiles.specs.Perform.{perform}
 use Rattle.symbolic_tiles.specs.Row.{Window, GoesThrough, Implements}
@@ -114,7 +114,7 @@ module _ (s : SimulationContext) where
   pub record IsFlowTile (map : Map) (w : ℕ) (word : Option Instr) (items : List FlowOp) : Type 0 where
     pub few : length items ≤ 100
     pub fetched : IsWordAt s w word
-    pub fits : (g : Guest) (core : Core) (choices : List Choice) → g.next ≡ w → IsBefore map s.area s.guest s.host g core → Fits map s.area s.guest core (executes s.guest word g) (flow s.host s.area items None choices core)
+    pub fits : (g : Guest) (core : Core) (choices : List Choice) → g.next ≡ w → IsBefore map s.area s.guest s.host g core → Fits map s.area s.guest core (guest_executes s.guest word g) (flow s.host s.area items None choices core)
 
   -- At a host address they stand, with the code of their edges and indirect sequences.
   pub record FlowAt (map : Map) (w : ℕ) (word : Option Instr) (items : List FlowOp) (a : ℕ) : Type 0 where

@@ -8,7 +8,7 @@ use Rattle.ia_codec.specs.declared.op.UnaryOp.TheVariants.{Div, Idiv}
 use Rattle.ia_codec.specs.declared.op.Operand.{Operand}
 use Rattle.runs.specs.Machine.{Outcome, Asks}
 use Rattle.machines.specs.Memory.{Rights, block, each_byte}
-use Rattle.machines.specs.Host.{Core, Host, place_of, choice_at, reads, does, goes_to, faults_on, divides, unary_acts, after_given, asks, system_call, plain}
+use Rattle.machines.specs.Host.{Core, Host, place_of, choice_at, reads, does, goes_to, faults_on, divides, unary_acts, after_host_call, host_asks, host_system_call, plain}
 use Rattle.symbolic_tiles.specs.Perform.{then_at}
 use Rattle.symbolic_tiles.specs.Laws.{OpsStandAnywhere}
 
@@ -23,18 +23,18 @@ module _ (rights : Rights) (next : ℕ) (h : Host) where
   plain_at : (op : Op) → plain rights op next h ≡ then_at next (plain rights op 0 at_zero)
   plain_at op = goes_at (does rights op (choice_at h.choices 0) h.core)
 
-  given_at : (x : Given) → after_given rights next x h ≡ record (after_given rights 0 x at_zero) { eip = next }
+  given_at : (x : Given) → after_host_call rights next x h ≡ record (after_host_call rights 0 x at_zero) { eip = next }
   given_at (Gives result to_buffer) = refl
   given_at (Fails error) = refl
 
-  asks_at : (call : ListedCall) → asks rights call next h ≡ then_at next (asks rights call 0 at_zero)
+  asks_at : (call : ListedCall) → host_asks rights call next h ≡ then_at next (host_asks rights call 0 at_zero)
   asks_at call = λ k. Asks call (λ a. given_at (given call a) k)
 
   by_test : (b : Bool) (x y x' y' : Outcome Host) → x ≡ then_at next x' → y ≡ then_at next y' → cond b x y ≡ then_at next (cond b x' y')
   by_test true x y x' y' hx hy = hx
   by_test false x y x' y' hx hy = hy
 
-  call_at : system_call rights next h ≡ then_at next (system_call rights 0 at_zero)
+  call_at : host_system_call rights next h ≡ then_at next (host_system_call rights 0 at_zero)
   call_at =
       by_test (eqb (h.core.regs 0) 1 || eqb (h.core.regs 0) 252) _ _ _ _ refl (
       by_test (eqb (h.core.regs 0) 3) _ _ _ _ (by_test (each_byte rights.writable (h.core.regs 2) (h.core.regs 1)) _ _ _ _ (asks_at (Read (h.core.regs 3) (h.core.regs 2))) refl) (

@@ -12,7 +12,7 @@ use Rattle.reg_map.specs.Home.{home, home_size, location_range}
 use Rattle.reg_map.specs.Place.{slot_of}
 use Rattle.runs.specs.Machine.{Outcome, Goes}
 use Rattle.machines.specs.Memory.{update, Rights}
-use Rattle.machines.specs.Guest.{Guest, effect_of, acts}
+use Rattle.machines.specs.Guest.{Guest, effect_of, guest_acts}
 use Rattle.machines.specs.Host.{Choice, choice_at, Core, Memory, value_at, has_result}
 use Rattle.machines.specs.Representation.{location_place, AreInRange, in_slot}
 use Rattle.symbolic_tiles.specs.Perform.{perform}
@@ -142,14 +142,14 @@ LeadsTo guest g (Some s) = IsStateOf guest g s
 
 -- the ops do the row
 abbrev pub OpsDo : Instr → List SymbolicOp → Type 0
-OpsDo i ops = (guest host : Rights) (g g' : Guest) (regs : ℕ → ℕ) (flags : Flags) (choices : List Choice) → Given i guest host g → ((r : ℕ) → regs r < 2 ^ 32) → acts guest i (effect_of i g) g ≡ Goes g' → LeadsTo guest g' (execute_ops guest host ops choices (state_of g regs flags))
+OpsDo i ops = (guest host : Rights) (g g' : Guest) (regs : ℕ → ℕ) (flags : Flags) (choices : List Choice) → Given i guest host g → ((r : ℕ) → regs r < 2 ^ 32) → guest_acts guest i (effect_of i g) g ≡ Goes g' → LeadsTo guest g' (execute_ops guest host ops choices (state_of g regs flags))
 
 -- the bytes of CR and XER stay in range
 abbrev pub AreFields : (ℕ → ℕ) → Type 0
 AreFields locs = (x : ℕ) → 34 ≤ x → x < 46 → locs x < location_range x
 
 abbrev pub KeepsFields : Instr → Type 0
-KeepsFields i = (guest : Rights) (g g' : Guest) → AreInRange g → acts guest i (effect_of i g) g ≡ Goes g' → AreFields g'.locs
+KeepsFields i = (guest : Rights) (g g' : Guest) → AreInRange g → guest_acts guest i (effect_of i g) g ≡ Goes g' → AreFields g'.locs
 
 held_byte : (f h : ℕ → ℕ) (a : ℕ) → f a < 256 → f a ≡ h a → h a < 256
 held_byte f h a lt e = subst (λ k. k < 256) e lt

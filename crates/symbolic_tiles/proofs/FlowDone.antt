@@ -12,7 +12,7 @@ use Rattle.ia_codec.specs.Rows.{condition_holds}
 use Rattle.reg_map.specs.Home.{location_count, location_range}
 use Rattle.runs.specs.Machine.{Outcome, Goes, Asks, Ends}
 use Rattle.machines.specs.Memory.{update, each_byte, Rights}
-use Rattle.machines.specs.Guest.{Guest, executes}
+use Rattle.machines.specs.Guest.{Guest, guest_executes}
 use Rattle.machines.specs.Host.{Choice, choice_at, Core}
 use Rattle.machines.specs.Representation.{AreInRange, IsHomePage}
 use Rattle.symbolic_tiles.specs.Row.{WritesHeld}
@@ -52,7 +52,7 @@ pub record Assumed (guest : Rights) (g : Guest) : Type 0 where
 
 -- the items do what the word does
 abbrev pub ItemsDo : Option Instr → (ℕ → List TileItem) → Type 0
-ItemsDo word tile = (guest host : Rights) (g : Guest) (regs : ℕ → ℕ) (flags : Flags) (choices : List Choice) → Assumed guest g → ((r : ℕ) → regs r < 2 ^ 32) → FitsExit guest (executes guest word g) (execute guest host (tile g.next) None choices (state_of g regs flags))
+ItemsDo word tile = (guest host : Rights) (g : Guest) (regs : ℕ → ℕ) (flags : Flags) (choices : List Choice) → Assumed guest g → ((r : ℕ) → regs r < 2 ^ 32) → FitsExit guest (guest_executes guest word g) (execute guest host (tile g.next) None choices (state_of g regs flags))
 
 -- the home page keeps the guest's buffers short
 page_keeps_short : (area : ℕ) (guest host : Rights) → IsHomePage area guest host → AreShort guest
@@ -123,9 +123,9 @@ module _ (m : Map) (is_map : IsMap m) (area : ℕ) (guest host : Rights) (g : Gu
     kept = λ a un. refl;
   }
 
-  word_fits : (word : Option Instr) (tile : ℕ → List TileItem) (choices : List Choice) → AreItems m (tile g.next) → ItemsDo word tile → Fits m area guest core (executes guest word g) (flow host area (flows_of (tile g.next) m) None choices core)
+  word_fits : (word : Option Instr) (tile : ℕ → List TileItem) (choices : List Choice) → AreItems m (tile g.next) → ItemsDo word tile → Fits m area guest core (guest_executes guest word g) (flow host area (flows_of (tile g.next) m) None choices core)
   word_fits word tile choices are run =
-      all_fit (executes guest word g) (execute guest host (tile g.next) None choices (state_of g core.regs core.flags)) (flow host area (flows_of (tile g.next) m) None choices core)
+      all_fit (guest_executes guest word g) (execute guest host (tile g.next) None choices (state_of g core.regs core.flags)) (flow host area (flows_of (tile g.next) m) None choices core)
       (run guest host g core.regs core.flags choices (record { in_range = before.in_range; writes_held = before.writes_held; short = page_keeps_short area guest host before.page }) before.is_core.words)
       (items_relate m area guest host is_map before.page before.segments before.writes_held core (tile g.next) None choices (state_of g core.regs core.flags) core are first)
 

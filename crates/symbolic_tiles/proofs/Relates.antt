@@ -15,7 +15,7 @@ use Rattle.reg_map.specs.Place.{slot_of, place}
 use Rattle.reg_map.specs.Spelled.{mov_from}
 use Rattle.runs.specs.Machine.{Outcome, Goes, Ends}
 use Rattle.machines.specs.Memory.{update, block, put_block, each_byte, Rights}
-use Rattle.machines.specs.Host.{Choice, choice_at, Core, Host, Memory, value_at, does, acts, after_given, asks, system_call, goes_to as host_goes_to}
+use Rattle.machines.specs.Host.{Choice, choice_at, Core, Host, Memory, value_at, does, host_acts, after_host_call, host_asks, host_system_call, goes_to as host_goes_to}
 use Rattle.machines.specs.Representation.{in_slot, IsHomePage, HasSegments}
 use Rattle.symbolic_tiles.specs.Perform.{is_jump}
 use Rattle.symbolic_tiles.specs.Relocated.{op_at}
@@ -105,7 +105,7 @@ module _ (m : Map) (area : ℕ) (guest host : Rights) (is_map : IsMap m) (page :
   IsGiven s (Fails error) = 1 ≤ error
 
   abbrev host_given : Given → List Choice → Core → Host
-  host_given x choices core = after_given host 0 x (record { core = core; eip = 0; choices = choices })
+  host_given x choices core = after_host_call host 0 x (record { core = core; eip = 0; choices = choices })
 
   clash : (b : Bool) → b ≡ true → b ≡ false → ⊥
   clash true p q = cc
@@ -156,7 +156,7 @@ module _ (m : Map) (area : ℕ) (guest host : Rights) (is_map : IsMap m) (page :
 
   -- int 0x80
   calls_relate : (rest : SymbolicState → SymbolicExit) (rest' : List Choice → Core → Exit) (choices : List Choice) (s : SymbolicState) (core : Core) → IsFree m 3 → Now s core → ((s1 : SymbolicState) (core1 : Core) → Now s1 core1 → Relates (rest s1) (rest' (drop 1 choices) core1)) →
-      Relates (calls guest host rest s) (behind_op rest' (system_call host 0 (record { core = core; eip = 0; choices = choices })))
+      Relates (calls guest host rest s) (behind_op rest' (host_system_call host 0 (record { core = core; eip = 0; choices = choices })))
   calls_relate rest rest' choices s core free sh on = by_exit (eqb (s.regs 0) 1 || eqb (s.regs 0) 252) refl
     where
       h : Host
@@ -178,9 +178,9 @@ module _ (m : Map) (area : ℕ) (guest host : Rights) (is_map : IsMap m) (page :
       count_word = subst (λ k. k < 2 ^ 32) r2 (sh.is_core.words 2)
 
       Host_does : Outcome Host → Type 0
-      Host_does o = system_call host 0 (record { core = core; eip = 0; choices = choices }) ≡ o
+      Host_does o = host_system_call host 0 (record { core = core; eip = 0; choices = choices }) ≡ o
 
-      asked : (call : ListedCall) → system_call host 0 (record { core = core; eip = 0; choices = choices }) ≡ asks host call 0 (record { core = core; eip = 0; choices = choices }) → ((a : AnswerValue) → IsGiven s (given call a)) → Relates (asks_for rest call s) (behind_op rest' (system_call host 0 (record { core = core; eip = 0; choices = choices })))
+      asked : (call : ListedCall) → host_system_call host 0 (record { core = core; eip = 0; choices = choices }) ≡ host_asks host call 0 (record { core = core; eip = 0; choices = choices }) → ((a : AnswerValue) → IsGiven s (given call a)) → Relates (asks_for rest call s) (behind_op rest' (host_system_call host 0 (record { core = core; eip = 0; choices = choices })))
       asked call e ok = (_, ap (behind_op rest') e, λ a. on_given (given call a) (ok a))
         where
           on_given : (x : Given) → IsGiven s x → Relates (rest (with_given x s)) (rest' (host_given x choices core).choices (host_given x choices core).core)
@@ -188,18 +188,18 @@ module _ (m : Map) (area : ℕ) (guest host : Rights) (is_map : IsMap m) (page :
           on_given (Fails error) good = on _ _ (shows_given (Fails error) s core choices good sh)
 
       by_close : (b : Bool) → eqb (s.regs 0) 6 ≡ b → (eqb (s.regs 0) 1 || eqb (s.regs 0) 252) ≡ false → eqb (s.regs 0) 3 ≡ false → eqb (s.regs 0) 4 ≡ false →
-          Relates (cond b (asks_for rest (Close (s.regs 3)) s) (rest (with_given (Fails 38) s))) (behind_op rest' (system_call host 0 (record { core = core; eip = 0; choices = choices })))
+          Relates (cond b (asks_for rest (Close (s.regs 3)) s) (rest (with_given (Fails 38) s))) (behind_op rest' (host_system_call host 0 (record { core = core; eip = 0; choices = choices })))
       by_close true c x r w = asked (Close (s.regs 3)) (rw (r0, x, r, w, c, r3) refl) (λ a. close_given (s.regs 3) a s)
       by_close false c x r w =
-          let goes : system_call host 0 (record { core = core; eip = 0; choices = choices }) ≡ Goes (host_given (Fails 38) choices core) = rw (r0, x, r, w, c) refl in
+          let goes : host_system_call host 0 (record { core = core; eip = 0; choices = choices }) ≡ Goes (host_given (Fails 38) choices core) = rw (r0, x, r, w, c) refl in
           subst (Relates (rest (with_given (Fails 38) s))) (sym (ap (behind_op rest') goes)) (on _ _ (shows_given (Fails 38) s core choices (omega arith) sh))
 
       by_write : (b : Bool) → eqb (s.regs 0) 4 ≡ b → (eqb (s.regs 0) 1 || eqb (s.regs 0) 252) ≡ false → eqb (s.regs 0) 3 ≡ false →
-          Relates (cond b (cond (each_byte guest.held (s.regs 2) (s.regs 1)) (asks_for rest (Write (s.regs 3) (block (s.regs 2) (s.regs 1) s.bytes)) s) Unknown) (cond (eqb (s.regs 0) 6) (asks_for rest (Close (s.regs 3)) s) (rest (with_given (Fails 38) s)))) (behind_op rest' (system_call host 0 (record { core = core; eip = 0; choices = choices })))
+          Relates (cond b (cond (each_byte guest.held (s.regs 2) (s.regs 1)) (asks_for rest (Write (s.regs 3) (block (s.regs 2) (s.regs 1) s.bytes)) s) Unknown) (cond (eqb (s.regs 0) 6) (asks_for rest (Close (s.regs 3)) s) (rest (with_given (Fails 38) s)))) (behind_op rest' (host_system_call host 0 (record { core = core; eip = 0; choices = choices })))
       by_write false w x r = by_close (eqb (s.regs 0) 6) refl x r w
       by_write true w x r = by_held (each_byte guest.held (s.regs 2) (s.regs 1)) refl
         where
-          by_held : (b : Bool) → each_byte guest.held (s.regs 2) (s.regs 1) ≡ b → Relates (cond b (asks_for rest (Write (s.regs 3) (block (s.regs 2) (s.regs 1) s.bytes)) s) Unknown) (behind_op rest' (system_call host 0 (record { core = core; eip = 0; choices = choices })))
+          by_held : (b : Bool) → each_byte guest.held (s.regs 2) (s.regs 1) ≡ b → Relates (cond b (asks_for rest (Write (s.regs 3) (block (s.regs 2) (s.regs 1) s.bytes)) s) Unknown) (behind_op rest' (host_system_call host 0 (record { core = core; eip = 0; choices = choices })))
           by_held false hh = tt
           by_held true hh =
               let all : each_byte host.held (s.regs 2) (s.regs 1) ≡ true = each_of host.held (s.regs 2) (s.regs 1) (λ i li. segments.held ((s.regs 1 + i) % 2 ^ 32) (each_at guest.held (s.regs 2) (s.regs 1) i hh li)) in
@@ -208,19 +208,19 @@ module _ (m : Map) (area : ℕ) (guest host : Rights) (is_map : IsMap m) (page :
               asked (Write (s.regs 3) (block (s.regs 2) (s.regs 1) s.bytes)) (rw (r0, x, r, w, r1, r2, r3, all, same) refl) (λ a. write_given (s.regs 3) (block (s.regs 2) (s.regs 1) s.bytes) a s (subst (λ k. k < 2 ^ 32) (sym long) count_word))
 
       by_read : (b : Bool) → eqb (s.regs 0) 3 ≡ b → (eqb (s.regs 0) 1 || eqb (s.regs 0) 252) ≡ false →
-          Relates (cond b (cond (each_byte guest.writable (s.regs 2) (s.regs 1)) (asks_for rest (Read (s.regs 3) (s.regs 2)) s) Unknown) (cond (eqb (s.regs 0) 4) (cond (each_byte guest.held (s.regs 2) (s.regs 1)) (asks_for rest (Write (s.regs 3) (block (s.regs 2) (s.regs 1) s.bytes)) s) Unknown) (cond (eqb (s.regs 0) 6) (asks_for rest (Close (s.regs 3)) s) (rest (with_given (Fails 38) s))))) (behind_op rest' (system_call host 0 (record { core = core; eip = 0; choices = choices })))
+          Relates (cond b (cond (each_byte guest.writable (s.regs 2) (s.regs 1)) (asks_for rest (Read (s.regs 3) (s.regs 2)) s) Unknown) (cond (eqb (s.regs 0) 4) (cond (each_byte guest.held (s.regs 2) (s.regs 1)) (asks_for rest (Write (s.regs 3) (block (s.regs 2) (s.regs 1) s.bytes)) s) Unknown) (cond (eqb (s.regs 0) 6) (asks_for rest (Close (s.regs 3)) s) (rest (with_given (Fails 38) s))))) (behind_op rest' (host_system_call host 0 (record { core = core; eip = 0; choices = choices })))
       by_read false r x = by_write (eqb (s.regs 0) 4) refl x r
       by_read true r x = by_writable (each_byte guest.writable (s.regs 2) (s.regs 1)) refl
         where
-          by_writable : (b : Bool) → each_byte guest.writable (s.regs 2) (s.regs 1) ≡ b → Relates (cond b (asks_for rest (Read (s.regs 3) (s.regs 2)) s) Unknown) (behind_op rest' (system_call host 0 (record { core = core; eip = 0; choices = choices })))
+          by_writable : (b : Bool) → each_byte guest.writable (s.regs 2) (s.regs 1) ≡ b → Relates (cond b (asks_for rest (Read (s.regs 3) (s.regs 2)) s) Unknown) (behind_op rest' (host_system_call host 0 (record { core = core; eip = 0; choices = choices })))
           by_writable false hw = tt
           by_writable true hw =
               let all : each_byte host.writable (s.regs 2) (s.regs 1) ≡ true = each_of host.writable (s.regs 2) (s.regs 1) (λ i li. let w = each_at guest.writable (s.regs 2) (s.regs 1) i hw li in segments.writable ((s.regs 1 + i) % 2 ^ 32) (writes_held ((s.regs 1 + i) % 2 ^ 32) w) ∙ w) in
               asked (Read (s.regs 3) (s.regs 2)) (rw (r0, x, r, r1, r2, r3, all) refl) (λ a. read_given (s.regs 3) (s.regs 2) a s count_word hw)
 
-      by_exit : (b : Bool) → (eqb (s.regs 0) 1 || eqb (s.regs 0) 252) ≡ b → Relates (cond b (Stopped (endings.Exit (s.regs 3))) (cond (eqb (s.regs 0) 3) (cond (each_byte guest.writable (s.regs 2) (s.regs 1)) (asks_for rest (Read (s.regs 3) (s.regs 2)) s) Unknown) (cond (eqb (s.regs 0) 4) (cond (each_byte guest.held (s.regs 2) (s.regs 1)) (asks_for rest (Write (s.regs 3) (block (s.regs 2) (s.regs 1) s.bytes)) s) Unknown) (cond (eqb (s.regs 0) 6) (asks_for rest (Close (s.regs 3)) s) (rest (with_given (Fails 38) s)))))) (behind_op rest' (system_call host 0 (record { core = core; eip = 0; choices = choices })))
+      by_exit : (b : Bool) → (eqb (s.regs 0) 1 || eqb (s.regs 0) 252) ≡ b → Relates (cond b (Stopped (endings.Exit (s.regs 3))) (cond (eqb (s.regs 0) 3) (cond (each_byte guest.writable (s.regs 2) (s.regs 1)) (asks_for rest (Read (s.regs 3) (s.regs 2)) s) Unknown) (cond (eqb (s.regs 0) 4) (cond (each_byte guest.held (s.regs 2) (s.regs 1)) (asks_for rest (Write (s.regs 3) (block (s.regs 2) (s.regs 1) s.bytes)) s) Unknown) (cond (eqb (s.regs 0) 6) (asks_for rest (Close (s.regs 3)) s) (rest (with_given (Fails 38) s)))))) (behind_op rest' (host_system_call host 0 (record { core = core; eip = 0; choices = choices })))
       by_exit true x =
-          let ends : system_call host 0 (record { core = core; eip = 0; choices = choices }) ≡ Ends (endings.Exit (s.regs 3)) = rw (r0, x, r3) refl in
+          let ends : host_system_call host 0 (record { core = core; eip = 0; choices = choices }) ≡ Ends (endings.Exit (s.regs 3)) = rw (r0, x, r3) refl in
           ap (behind_op rest') ends
       by_exit false x = by_read (eqb (s.regs 0) 3) refl x
 
@@ -239,7 +239,7 @@ module _ (m : Map) (area : ℕ) (guest host : Rights) (is_map : IsMap m) (page :
   -- what the line leads to, if it leads on
   by_line : (l : SymbolicOp) (rest : SymbolicState → SymbolicExit) (rest' : List Choice → Core → Exit) (choices : List Choice) (s : SymbolicState) (core : Core) → IsWellFormed l → Now s core → ((s1 : SymbolicState) (core1 : Core) → Now s1 core1 → Relates (rest s1) (rest' (drop 1 choices) core1)) →
       (o : Option SymbolicState) → execute_op guest host l (choice_at choices 0) s ≡ o → Kept m area guest host is_map page start o (does host (op_at area (op_of m l)) (choice_at choices 0) core) →
-      Relates (then_exit rest o) (behind_op rest' (acts host (op_at area (op_of m l)) 0 (record { core = core; eip = 0; choices = choices })))
+      Relates (then_exit rest o) (behind_op rest' (host_acts host (op_at area (op_of m l)) 0 (record { core = core; eip = 0; choices = choices })))
   by_line l rest rest' choices s core ok sh on None e k = tt
   by_line l rest rest' choices s core ok sh on (Some s1) e k =
       subst (λ (o : Outcome Host). Relates (rest s1) (behind_op rest' o)) (sym (op_acts m area guest host is_map page start l choices s s1 core ok sh e))
@@ -248,7 +248,7 @@ module _ (m : Map) (area : ℕ) (guest host : Rights) (is_map : IsMap m) (page :
   pub items_relate : (items : List TileItem) (skip : Option ℕ) (choices : List Choice) (s : SymbolicState) (core : Core) → AreItems m items → Now s core → Relates (execute guest host items skip choices s) (flow host area (flows_of items m) skip choices core)
   items_relate [] skip choices s core ok sh = tt
   items_relate (Do l ∷ items) None choices s core ok sh =
-      not_falling (op_of m l) (then_exit (execute guest host items None (drop 1 choices)) (execute_op guest host l (choice_at choices 0) s)) (behind_op (flow host area (flows_of items m) None) (acts host (op_at area (op_of m l)) 0 (record { core = core; eip = 0; choices = choices }))) (no_jump m area host l)
+      not_falling (op_of m l) (then_exit (execute guest host items None (drop 1 choices)) (execute_op guest host l (choice_at choices 0) s)) (behind_op (flow host area (flows_of items m) None) (host_acts host (op_at area (op_of m l)) 0 (record { core = core; eip = 0; choices = choices }))) (no_jump m area host l)
       (by_line l (execute guest host items None (drop 1 choices)) (flow host area (flows_of items m) None) choices s core ok.0 sh (λ s1 core1 sh1. items_relate items None (drop 1 choices) s1 core1 ok.1 sh1)
       (execute_op guest host l (choice_at choices 0) s) refl (shows_op m area guest host is_map page start l (choice_at choices 0) s core ok.0 sh))
   items_relate (Do l ∷ items) (Some mark) choices s core ok sh = items_relate items (Some mark) choices s core ok.1 sh
@@ -260,8 +260,8 @@ module _ (m : Map) (area : ℕ) (guest host : Rights) (is_map : IsMap m) (page :
   items_relate (Label k ∷ items) (Some mark) choices s core ok sh = by_test (eqb k mark) _ _ _ _ (items_relate items None choices s core ok sh) (items_relate items (Some mark) choices s core ok sh)
   items_relate (LoadEbx x ∷ items) None choices s core ok sh =
       let e = fetched m area guest host is_map page start (choice_at choices 0) core 3 (s.locs x) (place m x) (read_operand m area guest host is_map page start (Location x) s core ok.1 sh) in
-      let d : acts host (op_at area (mov_from 3 (place m x))) 0 (record { core = core; eip = 0; choices = choices }) ≡ Goes (record { core = record core { regs = update core.regs 3 (s.locs x) }; eip = 0; choices = drop 1 choices }) = fetch_plain m area host 3 (place m x) (record { core = core; eip = 0; choices = choices }) ∙ ap (host_goes_to host 0 (record { core = core; eip = 0; choices = choices })) e in
-      not_falling (mov_from 3 (place m x)) (execute guest host items None (drop 1 choices) (with_reg 3 (s.locs x) s)) (behind_op (flow host area (flows_of items m) None) (acts host (op_at area (mov_from 3 (place m x))) 0 (record { core = core; eip = 0; choices = choices }))) (fetch_no_jump m area host 3 (place m x))
+      let d : host_acts host (op_at area (mov_from 3 (place m x))) 0 (record { core = core; eip = 0; choices = choices }) ≡ Goes (record { core = record core { regs = update core.regs 3 (s.locs x) }; eip = 0; choices = drop 1 choices }) = fetch_plain m area host 3 (place m x) (record { core = core; eip = 0; choices = choices }) ∙ ap (host_goes_to host 0 (record { core = core; eip = 0; choices = choices })) e in
+      not_falling (mov_from 3 (place m x)) (execute guest host items None (drop 1 choices) (with_reg 3 (s.locs x) s)) (behind_op (flow host area (flows_of items m) None) (host_acts host (op_at area (mov_from 3 (place m x))) 0 (record { core = core; eip = 0; choices = choices }))) (fetch_no_jump m area host 3 (place m x))
       (subst (λ (o : Outcome Host). Relates (execute guest host items None (drop 1 choices) (with_reg 3 (s.locs x) s)) (behind_op (flow host area (flows_of items m) None) o)) (sym d)
       (items_relate items None (drop 1 choices) _ _ ok.2 (shows_reg m area guest host is_map page start 3 (s.locs x) s core ok.0 (operand_word m area guest host is_map page start (Location x) s core ok.1 sh) sh)))
   items_relate (LoadEbx x ∷ items) (Some mark) choices s core ok sh = items_relate items (Some mark) choices s core ok.2 sh

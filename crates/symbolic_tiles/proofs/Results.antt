@@ -12,7 +12,7 @@ use Rattle.reg_map.specs.Home.{location_range}
 use Rattle.symbolic_tiles.proofs.Memory.{update_other}
 use Rattle.runs.specs.Machine.{Goes}
 use Rattle.machines.specs.Memory.{update, Rights}
-use Rattle.machines.specs.Guest.{Guest, effect_of, acts, onward, results}
+use Rattle.machines.specs.Guest.{Guest, effect_of, guest_acts, at_next, results}
 use Rattle.machines.specs.Host.{Choice, choice_at}
 use Rattle.machines.specs.Representation.{AreInRange}
 use Rattle.symbolic_tiles.specs.Row.{DoesRow}
@@ -76,7 +76,7 @@ with_record ops false h = let e = room_append ops (record_ops false) in omega (a
 
 module _ (i : Instr) (k : ℕ) (carries records : Bool) (number : Guest → ℕ) (carry : Guest → Bool) (lk : k < 32) where
   abbrev pub IsRow : Type 0
-  IsRow = (guest : Rights) (g : Guest) → acts guest i (effect_of i g) g ≡ Goes (onward (results carries records k (number g) (effect_of i g) g.locs) g)
+  IsRow = (guest : Rights) (g : Guest) → guest_acts guest i (effect_of i g) g ≡ Goes (at_next (results carries records k (number g) (effect_of i g) g.locs) g)
 
   abbrev pub RowGives : Type 0
   RowGives = (g : Guest) → Gives carries records (number g) (carry g) (effect_of i g) (values_in i g)
@@ -86,7 +86,7 @@ module _ (i : Instr) (k : ℕ) (carries records : Bool) (number : Guest → ℕ)
 
   keeps_fields : IsRow → KeepsFields i
   keeps_fields row guest g g' range leads =
-      let e = goes_same (onward (results carries records k (number g) (effect_of i g) g.locs) g) g' (sym (row guest g) ∙ leads) in
+      let e = goes_same (at_next (results carries records k (number g) (effect_of i g) g.locs) g) g' (sym (row guest g) ∙ leads) in
       subst (λ h. (x : ℕ) → 34 ≤ x → x < 46 → h.locs x < location_range x) e (fields_results carries records k (number g) (effect_of i g) g.locs (omega arith) (λ x lx ux. range x ux))
 
   -- the carry stands behind SO
@@ -110,7 +110,7 @@ module _ (i : Instr) (k : ℕ) (carries records : Bool) (number : Guest → ℕ)
   does_it ops legal are row gives run =
       ops_do_row i (ops ++ record_ops records) legal (both_ops ops (record_ops records) are (record_are_ops records)) (keeps_fields row)
       (λ guest host g g' regs flags choices given words leads.
-      let e = goes_same (onward (results carries records k (number g) (effect_of i g) g.locs) g) g' (sym (row guest g) ∙ leads) in
+      let e = goes_same (at_next (results carries records k (number g) (effect_of i g) g.locs) g) g' (sym (row guest g) ∙ leads) in
       let r = run guest host g regs flags choices given.in_range words in
       ops_then guest host (HasResult carries k (number g) (carry g) g) (IsStateOf guest g') ops (record_ops records) choices (state_of g regs flags) r.1
       (records_it guest host g g' records given.in_range r.0

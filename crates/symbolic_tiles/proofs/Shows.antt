@@ -18,7 +18,7 @@ use Rattle.reg_map.specs.Home.{home, home_size}
 use Rattle.reg_map.specs.Place.{slot_of, place, place_in}
 use Rattle.reg_map.specs.Spelled.{mov_from, alu_from}
 use Rattle.machines.specs.Memory.{update, load, store, each_byte, Rights}
-use Rattle.machines.specs.Host.{Choice, choice_at, Core, Register, Memory, place_of, value_at, put_at, bind, values_of, puts_both, multiplies, has_result, reads, puts, leaves, gives_to, does, Host, plain, acts, goes_to as goes_to_next}
+use Rattle.machines.specs.Host.{Choice, choice_at, Core, Register, Memory, place_of, value_at, put_at, bind, host_values, puts_both, multiplies, has_result, reads, puts, leaves, gives_to, does, Host, plain, host_acts, goes_to as goes_to_next}
 use Rattle.space.specs.declared.call.End.TheVariants.{DivideFault}
 use Rattle.runs.specs.Machine.{Outcome, Ends}
 use Rattle.machines.specs.Representation.{in_slot, location_place, IsHomePage}
@@ -79,24 +79,24 @@ pick_word false x y hx hy = hy
 
 module _ (m : Map) (area : ℕ) (host : Rights) where
   -- an op of a line is no jump and no call
-  pub fetch_plain : (r : ℕ) (o : Operand) (h : Host) → acts host (op_at area (mov_from r o)) 0 h ≡ plain host (op_at area (mov_from r o)) 0 h
+  pub fetch_plain : (r : ℕ) (o : Operand) (h : Host) → host_acts host (op_at area (mov_from r o)) 0 h ≡ plain host (op_at area (mov_from r o)) 0 h
   fetch_plain r (Reg t) h = refl
   fetch_plain r (Abs d) h = refl
   fetch_plain r (Base b d) h = refl
   fetch_plain r (Pair b x t d) h = refl
 
-  operate_plain : (op : AluOp) (r : ℕ) (o : Operand) (h : Host) → acts host (op_at area (alu_from op r o)) 0 h ≡ plain host (op_at area (alu_from op r o)) 0 h
+  operate_plain : (op : AluOp) (r : ℕ) (o : Operand) (h : Host) → host_acts host (op_at area (alu_from op r o)) 0 h ≡ plain host (op_at area (alu_from op r o)) 0 h
   operate_plain op r (Reg t) h = refl
   operate_plain op r (Abs d) h = refl
   operate_plain op r (Base b d) h = refl
   operate_plain op r (Pair b x t d) h = refl
 
-  -- a division acts so where it doesn't fault
+  -- a division host_acts so where it doesn't fault
   abbrev IsPlain : SymbolicOp → Type 0
   IsPlain (Divide signed r) = ⊥
   IsPlain _ = Unit {0}
 
-  pub op_plain : (l : SymbolicOp) (h : Host) → IsPlain l → acts host (op_at area (op_of m l)) 0 h ≡ plain host (op_at area (op_of m l)) 0 h
+  pub op_plain : (l : SymbolicOp) (h : Host) → IsPlain l → host_acts host (op_at area (op_of m l)) 0 h ≡ plain host (op_at area (op_of m l)) 0 h
   op_plain (Mov r source) h p = fetch_plain r (operand_of m source) h
   op_plain (Alu op r source) h p = operate_plain op r (operand_of m source) h
   op_plain (MultiplyWide true source) h p = refl
@@ -263,7 +263,7 @@ module _ (m : Map) (area : ℕ) (guest host : Rights) (is_map : IsMap m) (page :
   fetched c core r v (Base b d) e = ap (λ k. bind k (gives_to host (MovFrom r (Base b d)) c true (Register r) core 0)) e
   fetched c core r v (Pair b x t d) e = ap (λ k. bind k (gives_to host (MovFrom r (Pair b x t d)) c true (Register r) core 0)) e
 
-  operated : (c : Choice) (core : Core) (op : AluOp) (r v : ℕ) (o : Operand) → reads host core (place_of 4 (operand_at area o) core.regs) ≡ Some v → does host (op_at area (alu_from op r o)) c core ≡ leaves host (has_result op) (alu_row op (values_of c core (core.regs r) v)) (Register r) core
+  operated : (c : Choice) (core : Core) (op : AluOp) (r v : ℕ) (o : Operand) → reads host core (place_of 4 (operand_at area o) core.regs) ≡ Some v → does host (op_at area (alu_from op r o)) c core ≡ leaves host (has_result op) (alu_row op (host_values c core (core.regs r) v)) (Register r) core
   operated c core op r v (Reg t) e = ap (λ k. bind k (gives_to host (AluTo op (Reg r) t) c (has_result op) (Register r) core (core.regs r))) e
   operated c core op r v (Abs d) e = ap (λ k. bind k (gives_to host (AluFrom op r (Abs (area + d))) c (has_result op) (Register r) core (core.regs r))) e
   operated c core op r v (Base b d) e = ap (λ k. bind k (gives_to host (AluFrom op r (Base b d)) c (has_result op) (Register r) core (core.regs r))) e
@@ -274,20 +274,20 @@ module _ (m : Map) (area : ℕ) (guest host : Rights) (is_map : IsMap m) (page :
   shows_effect true e r s core free lt sh = shows_reg r e.result (record s { flags = e.flags }) (record core { flags = e.flags }) free lt (shows_flags e.flags s core sh)
   shows_effect false e r s core free lt sh = shows_flags e.flags s core sh
 
-  values_same : (c : Choice) (s : SymbolicState) (core : Core) {x x' y y' : ℕ} → x' ≡ x → y' ≡ y → Now s core → values_of c core x' y' ≡ symbolic_values c s x y
+  values_same : (c : Choice) (s : SymbolicState) (core : Core) {x x' y y' : ℕ} → x' ≡ x → y' ≡ y → Now s core → host_values c core x' y' ≡ symbolic_values c s x y
   values_same c s core {x} {x'} {y} {y'} p q sh =
       let d = sh.regs 2 (free_low m 2 (omega arith)) in
       let f = sh.flags in
       rw (p, q, d, f) refl
 
   -- a row on values that the state has
-  shows_row : (F : HostValues → HostEffect) (b : Bool) (c : Choice) (r x x' y y' : ℕ) (s : SymbolicState) (core : Core) → IsTemporary r → x' ≡ x → y' ≡ y → (F (symbolic_values c s x y)).result < 2 ^ 32 → Now s core → GoesThrough (leaves host b (F (values_of c core x' y')) (Register r) core) (Now (with_effect b (F (symbolic_values c s x y)) r s))
+  shows_row : (F : HostValues → HostEffect) (b : Bool) (c : Choice) (r x x' y y' : ℕ) (s : SymbolicState) (core : Core) → IsTemporary r → x' ≡ x → y' ≡ y → (F (symbolic_values c s x y)).result < 2 ^ 32 → Now s core → GoesThrough (leaves host b (F (host_values c core x' y')) (Register r) core) (Now (with_effect b (F (symbolic_values c s x y)) r s))
   shows_row F b c r x x' y y' s core t p q lt sh =
       subst (λ v. GoesThrough (leaves host b (F v) (Register r) core) (Now (with_effect b (F (symbolic_values c s x y)) r s))) (sym (values_same c s core p q sh))
       (shows_effect b (F (symbolic_values c s x y)) r s core (free m r t) lt sh)
 
   -- two results
-  shows_both : (F : HostValues → HostEffect) (c : Choice) (x x' y y' : ℕ) (s : SymbolicState) (core : Core) → x' ≡ x → y' ≡ y → (F (symbolic_values c s x y)).result < 2 ^ 32 → (F (symbolic_values c s x y)).high < 2 ^ 32 → Now s core → Now (with_both (F (symbolic_values c s x y)) s) (puts_both (F (values_of c core x' y')) core)
+  shows_both : (F : HostValues → HostEffect) (c : Choice) (x x' y y' : ℕ) (s : SymbolicState) (core : Core) → x' ≡ x → y' ≡ y → (F (symbolic_values c s x y)).result < 2 ^ 32 → (F (symbolic_values c s x y)).high < 2 ^ 32 → Now s core → Now (with_both (F (symbolic_values c s x y)) s) (puts_both (F (host_values c core x' y')) core)
   shows_both F c x x' y y' s core p q lt lt' sh =
       let e = F (symbolic_values c s x y) in
       subst (λ v. Now (with_both (F (symbolic_values c s x y)) s) (puts_both (F v) core)) (sym (values_same c s core p q sh))
@@ -360,7 +360,7 @@ module _ (m : Map) (area : ℕ) (guest host : Rights) (is_map : IsMap m) (page :
       let fit : v < 256 ^ home_size x = subst (λ n. v < 256 ^ n) (sym (byte_size x lx.0)) (omega arith) in
       through _ _ _ (ap (λ p. puts host core p v) (home_place_of x core.regs lx.0) ∙ write_place m area guest host page x v core lx.1) (shows_location x v s core lx.1 fit (omega arith) sh)
 
-  shows_division : (signed : Bool) (r : ℕ) (c : Choice) (s : SymbolicState) (core : Core) → IsTemporary r → Now s core → (o : Option Core) → o ≡ Some (puts_both (divide_row signed (values_of c core (core.regs 0) (core.regs r))) core) → (k : Bool) → divide_faults (s.regs 2) (s.regs 0) (s.regs r) signed ≡ k →
+  shows_division : (signed : Bool) (r : ℕ) (c : Choice) (s : SymbolicState) (core : Core) → IsTemporary r → Now s core → (o : Option Core) → o ≡ Some (puts_both (divide_row signed (host_values c core (core.regs 0) (core.regs r))) core) → (k : Bool) → divide_faults (s.regs 2) (s.regs 0) (s.regs r) signed ≡ k →
       Kept (cond k None (Some (with_both (divide_row signed (symbolic_values c s (s.regs 0) (s.regs r))) s))) o
   shows_division signed r c s core t sh o e true f = tt
   shows_division signed r c s core t sh o e false f =
@@ -430,7 +430,7 @@ module _ (m : Map) (area : ℕ) (guest host : Rights) (is_map : IsMap m) (page :
   abbrev pub standing : Core → List Choice → Host
   standing core choices = record { core = core; eip = 0; choices = choices }
 
-  pub op_acts : (l : SymbolicOp) (choices : List Choice) (s s1 : SymbolicState) (core : Core) → IsWellFormed l → Now s core → execute_op guest host l (choice_at choices 0) s ≡ Some s1 → acts host (op_at area (op_of m l)) 0 (standing core choices) ≡ plain host (op_at area (op_of m l)) 0 (standing core choices)
+  pub op_acts : (l : SymbolicOp) (choices : List Choice) (s s1 : SymbolicState) (core : Core) → IsWellFormed l → Now s core → execute_op guest host l (choice_at choices 0) s ≡ Some s1 → host_acts host (op_at area (op_of m l)) 0 (standing core choices) ≡ plain host (op_at area (op_of m l)) 0 (standing core choices)
   op_acts (Divide true r) choices s s1 core ok sh e =
       let f = some_goes (divide_faults (s.regs 2) (s.regs 0) (s.regs r) true) _ s1 e in
       let p = sh.regs 2 (free_low m 2 (omega arith)) in
@@ -452,7 +452,7 @@ module _ (m : Map) (area : ℕ) (guest host : Rights) (is_map : IsMap m) (page :
   shows_ops [] choices s core ok sh = sh
   shows_ops (l ∷ ops) choices s core ok sh =
       let rest : SymbolicState → Option SymbolicState = execute_ops guest host ops (drop 1 choices) in
-      subst (λ (b : Bool). Kept (then_ops rest (execute_op guest host l (choice_at choices 0) s)) (cond b None (core_behind (perform host (map (op_at area) (map (op_of m) ops))) (acts host (op_at area (op_of m l)) 0 (standing core choices))))) (sym (no_jump m area host l))
+      subst (λ (b : Bool). Kept (then_ops rest (execute_op guest host l (choice_at choices 0) s)) (cond b None (core_behind (perform host (map (op_at area) (map (op_of m) ops))) (host_acts host (op_at area (op_of m l)) 0 (standing core choices))))) (sym (no_jump m area host l))
       (by_state (λ s1 core1 sh1. shows_ops ops (drop 1 choices) s1 core1 ok.1 sh1) (execute_op guest host l (choice_at choices 0) s) refl (shows_op l (choice_at choices 0) s core ok.0 sh))
     where
       by_core : ((s1 : SymbolicState) (core1 : Core) → Now s1 core1 → Kept (execute_ops guest host ops (drop 1 choices) s1) (perform host (map (op_at area) (map (op_of m) ops)) (drop 1 choices) core1)) → (s1 : SymbolicState) (o' : Option Core) → Kept (Some s1) o' → Kept (execute_ops guest host ops (drop 1 choices) s1) (core_behind (perform host (map (op_at area) (map (op_of m) ops))) (goes_to_next host 0 (standing core choices) o'))
@@ -460,7 +460,7 @@ module _ (m : Map) (area : ℕ) (guest host : Rights) (is_map : IsMap m) (page :
       by_core rest s1 (Some core1) k = rest s1 core1 k
 
       by_state : ((s1 : SymbolicState) (core1 : Core) → Now s1 core1 → Kept (execute_ops guest host ops (drop 1 choices) s1) (perform host (map (op_at area) (map (op_of m) ops)) (drop 1 choices) core1)) → (o : Option SymbolicState) → execute_op guest host l (choice_at choices 0) s ≡ o → Kept o (does host (op_at area (op_of m l)) (choice_at choices 0) core) →
-          Kept (then_ops (execute_ops guest host ops (drop 1 choices)) o) (core_behind (perform host (map (op_at area) (map (op_of m) ops))) (acts host (op_at area (op_of m l)) 0 (standing core choices)))
+          Kept (then_ops (execute_ops guest host ops (drop 1 choices)) o) (core_behind (perform host (map (op_at area) (map (op_of m) ops))) (host_acts host (op_at area (op_of m l)) 0 (standing core choices)))
       by_state rest None e k = tt
       by_state rest (Some s1) e k =
           subst (λ (out : Outcome Host). Kept (execute_ops guest host ops (drop 1 choices) s1) (core_behind (perform host (map (op_at area) (map (op_of m) ops))) out)) (sym (op_acts l choices s s1 core ok.0 sh e))

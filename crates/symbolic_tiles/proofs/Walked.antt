@@ -6,7 +6,7 @@ use Rattle.symbolic_tiles.specs.declared.flow_op.FlowOp.TheVariants.{Plain, Jump
 use Rattle.runs.specs.Machine.{Outcome, Goes, Asks, Ends, Anywhere}
 use Rattle.runs.specs.Simulation.{Walks, stays, walks}
 use Rattle.machines.specs.Memory.{Rights}
-use Rattle.machines.specs.Host.{Choice, Core, Host, acts}
+use Rattle.machines.specs.Host.{Choice, Core, Host, host_acts}
 use Rattle.symbolic_tiles.specs.Perform.{is_jump, op_outcome, then_at, core_behind, perform}
 use Rattle.symbolic_tiles.specs.Relocated.{op_at}
 use Rattle.symbolic_tiles.specs.Flow.{is_taken, Exit, Leaves, Leaps, Stops, Calls, Falls, behind_op, flow}
@@ -69,7 +69,7 @@ module _ (host : Rights) (area : ℕ) (step : Host → Outcome Host) (labels : �
   by_branch most target next x y h true e hit miss = one_more most x h _ e hit
   by_branch most target next x y h false e hit miss = one_more most y h _ e miss
 
-  by_outcome : (most next : ℕ) (op : Op) (rest : List Choice → Core → Exit) (h : Host) → step h ≡ acts host op next h → ((h1 : Host) → h1.eip ≡ next → Reached most (rest h1.choices h1.core) h1) →
+  by_outcome : (most next : ℕ) (op : Op) (rest : List Choice → Core → Exit) (h : Host) → step h ≡ host_acts host op next h → ((h1 : Host) → h1.eip ≡ next → Reached most (rest h1.choices h1.core) h1) →
       is_jump op ≡ false → (o : Outcome Host) → op_outcome host op h.choices h.core ≡ o → Reached (suc most) (behind_op rest o) h
   by_outcome most next op rest h st on n (Goes h1) e =
       one_more most (rest h1.choices h1.core) h (record h1 { eip = next }) (st ∙ ops_stand_anywhere host op next h n ∙ ap (then_at next) e) (on (record h1 { eip = next }) refl)
@@ -77,7 +77,7 @@ module _ (host : Rights) (area : ℕ) (step : Host → Outcome Host) (labels : �
       (0, most, h, (λ a. record (after a) { eip = next }), omega arith, stays, st ∙ ops_stand_anywhere host op next h n ∙ ap (then_at next) e, λ a. on (record (after a) { eip = next }) refl)
   by_outcome most next op rest h st on n (Ends how) e = (0, h, omega arith, stays, st ∙ ops_stand_anywhere host op next h n ∙ ap (then_at next) e)
 
-  by_op : (most next : ℕ) (op : Op) (rest : List Choice → Core → Exit) (h : Host) → step h ≡ acts host op next h → ((h1 : Host) → h1.eip ≡ next → Reached most (rest h1.choices h1.core) h1) →
+  by_op : (most next : ℕ) (op : Op) (rest : List Choice → Core → Exit) (h : Host) → step h ≡ host_acts host op next h → ((h1 : Host) → h1.eip ≡ next → Reached most (rest h1.choices h1.core) h1) →
       (b : Bool) → is_jump op ≡ b → Reached (suc most) (cond b Falls (behind_op rest (op_outcome host op h.choices h.core))) h
   by_op most next op rest h st on true n = tt
   by_op most next op rest h st on false n = by_outcome most next op rest h st on n (op_outcome host op h.choices h.core) refl

@@ -12,7 +12,7 @@ use Rattle.symbolic_tiles.specs.declared.flow_op.FlowOp.{FlowOp}
 use Rattle.symbolic_tiles.specs.declared.flow_op.FlowOp.TheVariants.{Plain, Jump, Mark, Edge, Leap}
 use Rattle.runs.specs.Machine.{Outcome, Goes, Asks, Ends}
 use Rattle.machines.specs.Memory.{Rights}
-use Rattle.machines.specs.Guest.{Guest, executes}
+use Rattle.machines.specs.Guest.{Guest, guest_executes}
 use Rattle.machines.specs.Host.{Choice, Core, Host}
 use Rattle.machines.specs.Representation.{IsHomePage, HasSegments, Represents, AreInRange}
 use Rattle.symbolic_tiles.specs.Perform.{is_jump, op_outcome}
@@ -101,10 +101,10 @@ Fits map area guest before (Ends e) exit = (e ≡ Outside) ⊎ (exit ≡ Stops e
 abbrev pub FlowDoesWord : Option Instr → Map → (ℕ → List FlowOp) → Type 0
 FlowDoesWord word map tile =
     (area : ℕ) (guest host : Rights) (g : Guest) (core : Core) (choices : List Choice) →
-    IsBefore map area guest host g core → Fits map area guest core (executes guest word g) (flow host area (tile g.next) None choices core)
+    IsBefore map area guest host g core → Fits map area guest core (guest_executes guest word g) (flow host area (tile g.next) None choices core)
 
 -- items for the word at one address do what it does
 abbrev pub FlowDoesWordAt : Option Instr → Map → ℕ → List FlowOp → Type 0
 FlowDoesWordAt word map at items =
     (area : ℕ) (guest host : Rights) (g : Guest) (core : Core) (choices : List Choice) →
-    g.next ≡ at → IsBefore map area guest host g core → Fits map area guest core (executes guest word g) (flow host area items None choices core)
+    g.next ≡ at → IsBefore map area guest host g core → Fits map area guest core (guest_executes guest word g) (flow host area items None choices core)

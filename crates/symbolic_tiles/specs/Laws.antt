@@ -6,7 +6,7 @@ use Rattle.reg_map.specs.Place.{slot_of}
 use Rattle.space.specs.declared.program.Program.{Program}
 use Rattle.machines.specs.Memory.{update, Rights, rights_of}
 use Rattle.machines.specs.Guest.{Guest}
-use Rattle.machines.specs.Host.{Core, Host, reads, puts, acts}
+use Rattle.machines.specs.Host.{Core, Host, reads, puts, host_acts}
 use Rattle.machines.specs.Representation.{location_place, IsHomePage, Represents}
 use Rattle.ia_codec.specs.declared.op.Op.{Op}
 use Rattle.symbolic_tiles.specs.Perform.{is_jump, op_outcome, then_at}
@@ -34,7 +34,7 @@ PlacesAreWritten =
 
 -- Where an op stands that is no jump decides nothing but the next op's address.
 abbrev pub OpsStandAnywhere : Type 0
-OpsStandAnywhere = (rights : Rights) (op : Op) (next : ℕ) (h : Host) → is_jump op ≡ false → acts rights op next h ≡ then_at next (op_outcome rights op h.choices h.core)
+OpsStandAnywhere = (rights : Rights) (op : Op) (next : ℕ) (h : Host) → is_jump op ≡ false → host_acts rights op next h ≡ then_at next (op_outcome rights op h.choices h.core)
 
 -- every byte outside the home page, and the homes of GPRs that registers hold
 pub record KeepsMemory (m : Map) (area : ℕ) (before after : Core) : Type 0 where

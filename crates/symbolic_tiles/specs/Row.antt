@@ -13,7 +13,7 @@ use Rattle.reg_map.specs.Place.{slot_of}
 use Rattle.reg_map.specs.Registers.{eax, ecx, edx}
 use Rattle.runs.specs.Machine.{Outcome, Goes}
 use Rattle.machines.specs.Memory.{Rights}
-use Rattle.machines.specs.Guest.{Guest, effect_of, acts}
+use Rattle.machines.specs.Guest.{Guest, effect_of, guest_acts}
 use Rattle.machines.specs.Host.{Choice, Core, value_at}
 use Rattle.machines.specs.Representation.{location_place, IsHomePage, Represents, AreInRange}
 use Rattle.symbolic_tiles.specs.Perform.{perform}
@@ -104,7 +104,7 @@ Implements window map area ops =
 -- the window of one instruction, behind which every location may be needed
 abbrev pub window_of : Instr → Window
 window_of i = record {
-  outcome = λ guest g. acts guest i (effect_of i g) g;
+  outcome = λ guest g. guest_acts guest i (effect_of i g) g;
   loads = λ g. let e = effect_of i g in loaded e.kind e.width e.address;
   stores = λ g. let e = effect_of i g in stored e.kind e.width e.address;
   writes = locations_written i;

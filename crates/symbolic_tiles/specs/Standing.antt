@@ -7,7 +7,7 @@ use Rattle.symbolic_tiles.specs.declared.flow_op.FlowOp.TheVariants.{Plain, Jump
 use Rattle.runs.specs.Machine.{Outcome, Goes, Asks, Ends, Anywhere}
 use Rattle.runs.specs.Simulation.{Walks}
 use Rattle.machines.specs.Memory.{Rights}
-use Rattle.machines.specs.Host.{Choice, Core, Host, acts}
+use Rattle.machines.specs.Host.{Choice, Core, Host, host_acts}
 use Rattle.symbolic_tiles.specs.Perform.{perform}
 use Rattle.symbolic_tiles.specs.Relocated.{op_at}
 use Rattle.symbolic_tiles.specs.Flow.{is_taken, Exit, Leaves, Leaps, Stops, Calls, Falls, flow}
@@ -15,7 +15,7 @@ use Rattle.symbolic_tiles.specs.Flow.{is_taken, Exit, Leaves, Leaps, Stops, Call
 module _ (host : Rights) (step : Host → Outcome Host) where
   -- the op stands at an address, and the code goes on at `next`
   abbrev pub OpAt : ℕ → Op → ℕ → Type 0
-  OpAt at op next = (h : Host) → h.eip ≡ at → step h ≡ acts host op next h
+  OpAt at op next = (h : Host) → h.eip ≡ at → step h ≡ host_acts host op next h
 
   abbrev pub OpsAt : ℕ → List Op → ℕ → Type 0
   OpsAt at [] end = at ≡ end

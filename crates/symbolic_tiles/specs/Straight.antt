@@ -4,7 +4,7 @@ use Rattle.space.specs.declared.call.End.TheVariants.{Outside}
 use Rattle.ppc_isa.specs.declared.instr.Instr.{Instr}
 use Rattle.runs.specs.Machine.{Outcome, Goes, Asks, Ends}
 use Rattle.machines.specs.Memory.{Rights}
-use Rattle.machines.specs.Guest.{Guest, effect_of, acts, behind}
+use Rattle.machines.specs.Guest.{Guest, effect_of, guest_acts, behind}
 use Rattle.row_laws.specs.FlowWords.{is_flow}
 use Rattle.symbolic_tiles.specs.Row.{window_of, WritesHeld}
 
@@ -16,7 +16,7 @@ IsStraight next (Ends e) = e ≡ Outside
 
 -- An instruction that is no flow word goes on to the next word, or ends outside.
 abbrev pub RowsAreStraight : Type 0
-RowsAreStraight = (i : Instr) (rights : Rights) (g : Guest) → is_flow i ≡ false → IsStraight (behind g.next) (acts rights i (effect_of i g) g)
+RowsAreStraight = (i : Instr) (rights : Rights) (g : Guest) → is_flow i ≡ false → IsStraight (behind g.next) (guest_acts rights i (effect_of i g) g)
 
 -- each byte that an instruction loads is held, and each that it stores is held and may be written
 pub record AccessIsInside (i : Instr) (rights : Rights) (g : Guest) : Type 0 where
@@ -25,4 +25,4 @@ pub record AccessIsInside (i : Instr) (rights : Rights) (g : Guest) : Type 0 whe
 
 -- Where it goes on, its access is inside.
 abbrev pub AccessesAreInside : Type 0
-AccessesAreInside = (i : Instr) (rights : Rights) (g g' : Guest) → is_flow i ≡ false → WritesHeld rights → acts rights i (effect_of i g) g ≡ Goes g' → AccessIsInside i rights g
+AccessesAreInside = (i : Instr) (rights : Rights) (g g' : Guest) → is_flow i ≡ false → WritesHeld rights → guest_acts rights i (effect_of i g) g ≡ Goes g' → AccessIsInside i rights g

@@ -2,7 +2,7 @@
 use Rattle.std.proofs.Common.{◌≡◌, ℕ, true, refl, sym, ap, ◌∙◌, subst}
 use Rattle.std.proofs.Math.Path.{fun_ext}
 use Rattle.runs.specs.Machine.{Outcome, Goes, Asks, Ends}
-use Rattle.machines.specs.Guest.{Guest, executes}
+use Rattle.machines.specs.Guest.{Guest, guest_executes}
 use Rattle.simulation.specs.Context.{SimulationContext, Alike, AreAlike}
 use Rattle.upkeep.specs.Steps.{AllLiveIsEnough}
 
@@ -25,4 +25,4 @@ module _ (s : SimulationContext) where
 
 pub all_live : AllLiveIsEnough
 all_live s live word g other stands alike =
-    subst (λ t. AreAlike s (executes s.guest word g) (executes s.guest word t)) (sym (same s live g other alike)) (are_alike s (executes s.guest word g))
+    subst (λ t. AreAlike s (guest_executes s.guest word g) (guest_executes s.guest word t)) (sym (same s live g other alike)) (are_alike s (guest_executes s.guest word g))

@@ -15,7 +15,7 @@ use Rattle.ia_codec.specs.Rows.{host_row}
 use Rattle.reg_map.specs.Registers.{eax, ecx, edx, ebx}
 use Rattle.machines.specs.Memory.{update, store, block, put_block, each_byte, Rights, is_code}
 use Rattle.machines.specs.Readings.{Fetched}
-use Rattle.machines.specs.Host.{Choice, Core, Host, Place, Register, Memory, place_of, choice_at, has_result, extend_size, address_in, byte_for, puts_both, bind, values_of, reads, puts, put_at, leaves, gives_to, changes, sets, sets_byte, multiplies, unary_does, does, goes_to, plain, jumps, jumps_to, faults_on, divides, unary_acts, after_given, asks, system_call, acts, executes, op_bytes}
+use Rattle.machines.specs.Host.{Choice, Core, Host, Place, Register, Memory, place_of, choice_at, has_result, extend_size, address_in, byte_for, puts_both, bind, host_values, reads, puts, put_at, leaves, gives_to, changes, sets, sets_byte, multiplies, unary_does, does, goes_to, plain, jumps, jumps_to, faults_on, divides, unary_acts, after_host_call, host_asks, host_system_call, host_acts, host_executes, op_bytes}
 use Rattle.machines.proofs.Tests.{first_of_both, second_of_both}
 use Rattle.symbolic_tiles.proofs.Memory.{update_other}
 use Rattle.simulation.specs.Context.{KeepsUnwritten, StepKeepsUnwritten}
@@ -88,7 +88,7 @@ module _ (rights : Rights) where
   leaves_keep false e place core = λ a off. refl
 
   gives_keep : (op : Op) (c : Choice) (result : Bool) (place : Place) (core : Core) (x y : ℕ) → Keeps core (gives_to rights op c result place core x y)
-  gives_keep op c result place core x y = leaves_keep result (host_row op (values_of c core x y)) place core
+  gives_keep op c result place core x y = leaves_keep result (host_row op (host_values c core x y)) place core
 
   bind_keeps : (core : Core) (x : Option ℕ) (f : ℕ → Option Core) → ((v : ℕ) → Keeps core (f v)) → Keeps core (bind x f)
   bind_keeps core None f keeps = tt
@@ -104,11 +104,11 @@ module _ (rights : Rights) where
 
   sets_byte_keeps : (op : Op) (c : Choice) (to : Operand) (core : Core) (y : Option ℕ) → Keeps core (sets_byte rights op c to core y)
   sets_byte_keeps op c to core y =
-      let byte : ℕ → ℕ = λ v. byte_for to core (host_row op (values_of c core 0 v)).result in
+      let byte : ℕ → ℕ = λ v. byte_for to core (host_row op (host_values c core 0 v)).result in
       bind_keeps core y (λ v. puts rights core (place_of 1 to core.regs) (byte v)) (λ v. puts_keep core (place_of 1 to core.regs) (byte v))
 
   multiplies_keep : (op : Op) (c : Choice) (core : Core) (y : Option ℕ) → Keeps core (multiplies rights op c core y)
-  multiplies_keep op c core y = bind_keeps core y (λ v. Some (puts_both (host_row op (values_of c core (core.regs eax) v)) core)) (λ v a off. refl)
+  multiplies_keep op c core y = bind_keeps core y (λ v. Some (puts_both (host_row op (host_values c core (core.regs eax) v)) core)) (λ v a off. refl)
 
   unary_keeps : (op : UnaryOp) (on : Operand) (c : Choice) (core : Core) → Keeps core (unary_does rights op on c core)
   unary_keeps Not on c core = sets_keep (Unary Not on) c (place_of 4 on core.regs) core (reads rights core (place_of 4 on core.regs))
@@ -145,7 +145,7 @@ module _ (rights : Rights) where
   goes_keep next h None keeps = tt
   goes_keep next h (Some core) keeps = keeps
 
-  given_keeps : (next n : ℕ) (h : Host) (g : Given) → IsNoLonger n g → each_byte rights.writable n (h.core.regs ecx) ≡ true → KeepsUnwritten rights h.core (after_given rights next g h).core
+  given_keeps : (next n : ℕ) (h : Host) (g : Given) → IsNoLonger n g → each_byte rights.writable n (h.core.regs ecx) ≡ true → KeepsUnwritten rights h.core (after_host_call rights next g h).core
   given_keeps next n h (Gives result to_buffer) le each = λ a off. put_keeps rights.writable a off to_buffer n (h.core.regs ecx) h.core.bytes le each
   given_keeps next n h (Fails error) le each = λ a off. refl
 
@@ -161,13 +161,13 @@ module _ (rights : Rights) where
     buffer = h.core.regs ecx
 
     abbrev closing : Bool → Outcome Host
-    closing b = cond b (asks rights (Close (h.core.regs ebx)) next h) (Goes (after_given rights next (Fails 38) h))
+    closing b = cond b (host_asks rights (Close (h.core.regs ebx)) next h) (Goes (after_host_call rights next (Fails 38) h))
 
     abbrev writing : Bool → Bool → Bool → Outcome Host
-    writing b held rest = cond b (cond held (asks rights (Write (h.core.regs ebx) (block count buffer h.core.bytes)) next h) (Ends Outside)) (closing rest)
+    writing b held rest = cond b (cond held (host_asks rights (Write (h.core.regs ebx) (block count buffer h.core.bytes)) next h) (Ends Outside)) (closing rest)
 
     abbrev reading : Bool → Bool → Bool → Bool → Bool → Outcome Host
-    reading b writable rest held last = cond b (cond writable (asks rights (Read (h.core.regs ebx) count) next h) (Ends Outside)) (writing rest held last)
+    reading b writable rest held last = cond b (cond writable (host_asks rights (Read (h.core.regs ebx) count) next h) (Ends Outside)) (writing rest held last)
 
     by_close : (b : Bool) → StepKeepsUnwritten rights h.core (closing b)
     by_close true = λ a. given_keeps next 0 h (given (Close (h.core.regs ebx)) a) (close_gives (h.core.regs ebx) a) (none_tested buffer)
@@ -187,7 +187,7 @@ module _ (rights : Rights) where
     by_exit true number writable rest held last e = tt
     by_exit false number writable rest held last e = by_read number writable rest held last e
 
-    system_keeps : StepKeepsUnwritten rights h.core (system_call rights next h)
+    system_keeps : StepKeepsUnwritten rights h.core (host_system_call rights next h)
     system_keeps = by_exit (eqb (h.core.regs eax) 1 || eqb (h.core.regs eax) 252) (eqb (h.core.regs eax) 3) (each_byte rights.writable count buffer) (eqb (h.core.regs eax) 4) (each_byte rights.held count buffer) (eqb (h.core.regs eax) 6) refl
 
   jumps_keep : (op : Op) (rel next : ℕ) (h : Host) → StepKeepsUnwritten rights h.core (jumps rights op rel next h)
@@ -215,7 +215,7 @@ module _ (rights : Rights) where
   jumps_to_keep None h = tt
   jumps_to_keep (Some target) h = λ a off. refl
 
-  acts_keep : (op : Op) (next : ℕ) (h : Host) → StepKeepsUnwritten rights h.core (acts rights op next h)
+  acts_keep : (op : Op) (next : ℕ) (h : Host) → StepKeepsUnwritten rights h.core (host_acts rights op next h)
   acts_keep (Unary op on) next h = unary_acts_keep op on next h
   acts_keep (Jcc condition rel) next h = jumps_keep (Jcc condition rel) rel next h
   acts_keep (Jmp rel) next h = jumps_keep (Jmp rel) rel next h
@@ -225,14 +225,14 @@ module _ (rights : Rights) where
   acts_keep Ud2 next h = tt
   acts_keep op next h = plain_keeps op next h
 
-  executes_keep : (f : Option Fetched) (h : Host) → StepKeepsUnwritten rights h.core (executes rights f h)
+  executes_keep : (f : Option Fetched) (h : Host) → StepKeepsUnwritten rights h.core (host_executes rights f h)
   executes_keep None h = tt
   executes_keep (Some f) h = acts_keep f.op ((h.eip + f.len) % 2 ^ 32) h
 
 pub host_keeps : HostKeepsUnwritten
 host_keeps rights code reading h = by_code (is_code code h.eip)
   where
-    by_code : (b : Bool) → StepKeepsUnwritten rights h.core (cond b (executes rights (reading (op_bytes code h.eip)) h) (Ends Outside))
+    by_code : (b : Bool) → StepKeepsUnwritten rights h.core (cond b (host_executes rights (reading (op_bytes code h.eip)) h) (Ends Outside))
     by_code true = executes_keep rights (reading (op_bytes code h.eip)) h
     by_code false = tt
 

@@ -6,7 +6,7 @@ use Rattle.ia_codec.specs.declared.op.Operand.TheVariants.{Base, Pair}
 use Rattle.ia_codec.specs.declared.op.Op.TheVariants.{Int80}
 use Rattle.ia_codec.specs.RowExamples.{flags}
 use Rattle.machines.specs.Memory.{update, load, Rights}
-use Rattle.machines.specs.Host.{Host, Memory, place_of, acts}
+use Rattle.machines.specs.Host.{Host, Memory, place_of, host_acts}
 
 -- ebx is 0xfffffff0 and ecx 8, and the other registers are 0
 abbrev pub high_base : ℕ → ℕ
@@ -55,7 +55,7 @@ answered a (Ends e) = None
 
 -- int 0x80 with these numbers, and an answer: what is asked, eax and the bytes
 abbrev pub Answers : Host → AnswerValue → ListedCall → ℕ → List ℕ → Type 0
-Answers h answer call eax bytes = answered answer (acts all_rights Int80 0x08048002 h) ≡ Some (record { call = call; eax = eax; next = 0x08048002; bytes = bytes })
+Answers h answer call eax bytes = answered answer (host_acts all_rights Int80 0x08048002 h) ≡ Some (record { call = call; eax = eax; next = 0x08048002; bytes = bytes })
 
 -- A read of 3 bytes to 0x09000000, a write of 2 bytes from there, and a close; an error e is 2^32 - e.
 pub record AnswersShown : Type 0 where

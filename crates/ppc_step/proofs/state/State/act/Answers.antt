@@ -2,7 +2,7 @@ use Rattle.std.proofs.Common.{◌≡◌, ◌-◌, ◌*◌, refl, sym, ◌∙◌,
 use Rattle.ppc_isa.specs.declared.instr.Instr.{Instr}
 use Rattle.ppc_isa.specs.declared.instr.Instr.TheVariants.{Multiple}
 use Rattle.ppc_isa.specs.declared.instr.MultipleOp.TheVariants.{Lmw, Stmw}
-use Rattle.machines.specs.Guest.{effect_of, onward, results}
+use Rattle.machines.specs.Guest.{effect_of, at_next, results}
 use Rattle.ppc_step.specs.declared.forms.Form.{Form}
 use Rattle.ppc_step.specs.Shown.{IsState}
 use Rattle.ppc_step.proofs.States.{acted, went}
@@ -11,31 +11,31 @@ use Rattle.ppc_step.proofs.state.State.act.Goals as goal
 pub returns-in-Immediate-clause-leads : goal.returns-in-Immediate-clause-leads
 returns-in-Immediate-clause-leads c = λ p g is.
     acted p g c.args.instr.now _ (effect_of c.args.instr.now g) _ _ c.in-Immediate.is (went p _ _ _ c.give_d.ensures.event
-    (subst (λ (f : Form). IsState p c.give_d.new.self (onward (results f.carries f.records c.in-Immediate.d (effect_of c.args.instr.now g).d (effect_of c.args.instr.now g) g.locs) g)) c.immediate_form.ensures
+    (subst (λ (f : Form). IsState p c.give_d.new.self (at_next (results f.carries f.records c.in-Immediate.d (effect_of c.args.instr.now g).d (effect_of c.args.instr.now g) g.locs) g)) c.immediate_form.ensures
     (c.give_d.ensures.state p g is)))
 
 pub returns-in-LogicImmediate-clause-leads : goal.returns-in-LogicImmediate-clause-leads
 returns-in-LogicImmediate-clause-leads c = λ p g is.
     acted p g c.args.instr.now _ (effect_of c.args.instr.now g) _ _ c.in-LogicImmediate.is (went p _ _ _ c.give_a.ensures.event
-    (subst (λ (f : Form). IsState p c.give_a.new.self (onward (results f.carries f.records c.in-LogicImmediate.a (effect_of c.args.instr.now g).a (effect_of c.args.instr.now g) g.locs) g)) c.logic_immediate_form.ensures
+    (subst (λ (f : Form). IsState p c.give_a.new.self (at_next (results f.carries f.records c.in-LogicImmediate.a (effect_of c.args.instr.now g).a (effect_of c.args.instr.now g) g.locs) g)) c.logic_immediate_form.ensures
     (c.give_a.ensures.state p g is)))
 
 pub returns-in-Arithmetic-clause-leads : goal.returns-in-Arithmetic-clause-leads
 returns-in-Arithmetic-clause-leads c = λ p g is.
     acted p g c.args.instr.now _ (effect_of c.args.instr.now g) _ _ c.in-Arithmetic.is (went p _ _ _ c.give_d-in-Arithmetic.ensures.event
-    (subst (λ (f : Form). IsState p c.give_d-in-Arithmetic.new.self (onward (results f.carries f.records c.in-Arithmetic.d (effect_of c.args.instr.now g).d (effect_of c.args.instr.now g) g.locs) g)) c.arithmetic_form.ensures
+    (subst (λ (f : Form). IsState p c.give_d-in-Arithmetic.new.self (at_next (results f.carries f.records c.in-Arithmetic.d (effect_of c.args.instr.now g).d (effect_of c.args.instr.now g) g.locs) g)) c.arithmetic_form.ensures
     (c.give_d-in-Arithmetic.ensures.state p g is)))
 
 pub returns-in-ArithmeticUnary-clause-leads : goal.returns-in-ArithmeticUnary-clause-leads
 returns-in-ArithmeticUnary-clause-leads c = λ p g is.
     acted p g c.args.instr.now _ (effect_of c.args.instr.now g) _ _ c.in-ArithmeticUnary.is (went p _ _ _ c.give_d-in-ArithmeticUnary.ensures.event
-    (subst (λ (f : Form). IsState p c.give_d-in-ArithmeticUnary.new.self (onward (results f.carries f.records c.in-ArithmeticUnary.d (effect_of c.args.instr.now g).d (effect_of c.args.instr.now g) g.locs) g)) c.arithmetic_unary_form.ensures
+    (subst (λ (f : Form). IsState p c.give_d-in-ArithmeticUnary.new.self (at_next (results f.carries f.records c.in-ArithmeticUnary.d (effect_of c.args.instr.now g).d (effect_of c.args.instr.now g) g.locs) g)) c.arithmetic_unary_form.ensures
     (c.give_d-in-ArithmeticUnary.ensures.state p g is)))
 
 pub returns-in-Logic-clause-leads : goal.returns-in-Logic-clause-leads
 returns-in-Logic-clause-leads c = λ p g is.
     acted p g c.args.instr.now _ (effect_of c.args.instr.now g) _ _ c.in-Logic.is (went p _ _ _ c.give_a-in-Logic.ensures.event
-    (subst (λ (f : Form). IsState p c.give_a-in-Logic.new.self (onward (results f.carries f.records c.in-Logic.a (effect_of c.args.instr.now g).a (effect_of c.args.instr.now g) g.locs) g)) c.logic_form.ensures
+    (subst (λ (f : Form). IsState p c.give_a-in-Logic.new.self (at_next (results f.carries f.records c.in-Logic.a (effect_of c.args.instr.now g).a (effect_of c.args.instr.now g) g.locs) g)) c.logic_form.ensures
     (c.give_a-in-Logic.ensures.state p g is)))
 
 pub returns-in-Rotate-clause-leads : goal.returns-in-Rotate-clause-leads

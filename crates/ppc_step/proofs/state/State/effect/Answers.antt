@@ -1,4 +1,4 @@
-use Rattle.machines.specs.Guest.{values_of}
+use Rattle.machines.specs.Guest.{guest_values}
 use Rattle.std.proofs.Common.{◌∙◌, ap}
 use Rattle.ppc_isa.specs.Rows.{guest_row}
 use Rattle.ppc_step.proofs.Rows.{effect_is}
@@ -8,4 +8,4 @@ pub returns-clause-row : goal.returns-clause-row
 returns-clause-row c = (_, c.row.ensures)
 
 pub returns-clause-effect : goal.returns-clause-effect
-returns-clause-effect c = λ p g is. c.row.ensures ∙ ap (guest_row c.args.instr.now) (c.values.ensures ∙ ap (values_of c.args.instr.now 0) is.registers) ∙ effect_is c.args.instr.now g c.requires.other
+returns-clause-effect c = λ p g is. c.row.ensures ∙ ap (guest_row c.args.instr.now) (c.values.ensures ∙ ap (guest_values c.args.instr.now 0) is.registers) ∙ effect_is c.args.instr.now g c.requires.other

@@ -1,7 +1,7 @@
 use Rattle.std.proofs.Common.{subst}
 use Rattle.ppc_isa.specs.Effect.{Effect}
 use Rattle.machines.specs.Memory.{update}
-use Rattle.machines.specs.Guest.{effect_of, onward}
+use Rattle.machines.specs.Guest.{effect_of, at_next}
 use Rattle.ppc_step.specs.Shown.{IsState}
 use Rattle.ppc_step.proofs.States.{gpr_put, with_registers, load_goes}
 use Rattle.ppc_step.proofs.state.State.load.Goals as goal
@@ -10,5 +10,5 @@ pub returns-clause-leads : goal.returns-clause-leads
 returns-clause-leads c = λ p g is.
     let l = c.in-Some.ensures p g is in
     load_goes p c.go_on.new.self g (effect_of c.args.instr.now g) c.go_on.result _ c.go_on.ensures.event l.0
-    (subst (λ (e : Effect). IsState p c.go_on.new.self (onward (update g.locs c.args.d e.d) g)) l.1
+    (subst (λ (e : Effect). IsState p c.go_on.new.self (at_next (update g.locs c.args.d e.d) g)) l.1
     (c.go_on.ensures.state p _ (with_registers p c.args.self.now g _ _ is (gpr_put _ _ _ _ _ c.put_gpr.ensures is.registers))))
