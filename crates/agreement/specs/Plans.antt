@@ -8,7 +8,7 @@ use Rattle.ppc_isa.specs.declared.instr.Instr.{Instr}
 use Rattle.elf_load.specs.Area.{IsArea}
 use Rattle.elf_load.specs.Faults.{IsProgramOf}
 use Rattle.machines.specs.Agreement.{AgreesWith}
-use Rattle.machines.specs.Files.{Agrees}
+use Rattle.agreement.specs.Files.{Agrees}
 use Rattle.machines.specs.Readings.{Fetched, ReadsWords, ReadsOps}
 use Rattle.code_layout.specs.Places.{entry_of}
 use Rattle.code_words.specs.Words.{HasWords, first_of}

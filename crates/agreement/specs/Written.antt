@@ -7,7 +7,7 @@ use Rattle.elf_load.specs.Area.{IsHostArea}
 use Rattle.elf_load.specs.Faults.{IsProgramOf}
 use Rattle.elf_emit.specs.File.{elf_file}
 use Rattle.elf_emit.specs.Translation.{FitsArea, file_segments, translated}
-use Rattle.machines.specs.Files.{Agrees}
+use Rattle.agreement.specs.Files.{Agrees}
 use Rattle.code_layout.specs.Layout.{IsLaidFor}
 use Rattle.laid_code.specs.Instance.{Interface, without_registers}
 use Rattle.upkeep.specs.Loaded.{AreBytes}

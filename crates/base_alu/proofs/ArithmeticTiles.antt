@@ -20,7 +20,7 @@ use Rattle.ppc_isa.specs.ProductRows.{quotient_signed, quotient_unsigned}
 use Rattle.ia_codec.specs.Products.{sign_copies}
 use Rattle.machines.specs.Memory.{update}
 use Rattle.machines.specs.Guest.{Guest}
-use Rattle.machines.specs.Representation.{AreInRange}
+use Rattle.reg_map.specs.Representation.{AreInRange}
 use Rattle.symbolic_tiles.specs.Tiles.{IsTileOf}
 use Rattle.symbolic_tiles.specs.Recording.{record_ops}
 use Rattle.base_alu.proofs.Families.{arithmetic_do, unary_do}

@@ -16,7 +16,7 @@ use Rattle.runs.specs.Machine.{Goes}
 use Rattle.machines.specs.Memory.{update, Rights}
 use Rattle.machines.specs.Guest.{Guest, effect_of, guest_acts, at_next, put_cr, cr_word}
 use Rattle.machines.specs.Host.{Choice}
-use Rattle.machines.specs.Representation.{AreInRange}
+use Rattle.reg_map.specs.Representation.{AreInRange}
 use Rattle.symbolic_tiles.specs.Tiles.{IsTileOf, room_of}
 use Rattle.symbolic_tiles.specs.declared.symbolic_op.SymbolicOp.{SymbolicOp}
 use Rattle.symbolic_tiles.specs.SymbolicOps.{AreWellFormed}

@@ -8,7 +8,7 @@ use Rattle.reg_map.specs.Home.{location_range}
 use Rattle.machines.specs.Memory.{update, Rights}
 use Rattle.machines.specs.Guest.{Guest, at_next, put_cr, cr_word}
 use Rattle.machines.specs.Host.{Choice}
-use Rattle.machines.specs.Representation.{AreInRange}
+use Rattle.reg_map.specs.Representation.{AreInRange}
 use Rattle.symbolic_tiles.specs.Tiles.{IsTileOf, room_of}
 use Rattle.symbolic_tiles.specs.SymbolicOps.{AreWellFormed}
 use Rattle.base_alu.specs.Conditions.{chosen_ops, mtcrf_below, mtcrf_ops}

@@ -10,7 +10,7 @@ use Rattle.ppc_isa.specs.Recording.{with_field}
 use Rattle.reg_map.specs.Home.{location_range}
 use Rattle.machines.specs.Memory.{update}
 use Rattle.machines.specs.Guest.{Guest, at_next, put_cr, put_xer, cr_word, xer_word}
-use Rattle.machines.specs.Representation.{AreInRange}
+use Rattle.reg_map.specs.Representation.{AreInRange}
 use Rattle.symbolic_tiles.specs.Tiles.{IsTileOf}
 use Rattle.base_alu.specs.Conditions.{mcrf_ops, mfcr_ops}
 use Rattle.base_alu.specs.Specials.{mfspr_ops, mfxer_ops, mtspr_ops, mtxer_ops}

@@ -7,7 +7,7 @@ use Rattle.ia_codec.specs.declared.op.AluOp.{AluOp}
 use Rattle.ia_codec.specs.declared.op.AluOp.TheVariants.{Add, Or, Adc, Sbb, Sub, Xor, Cmp}
 use Rattle.ia_codec.specs.declared.op.Condition.{Condition}
 use Rattle.ia_codec.specs.declared.op.Condition.TheVariants.{Below, NotBelow, Equal}
-use Rattle.reg_map.specs.Registers.{eax, ecx, edx}
+use Rattle.ia_codec.specs.Registers.{eax, ecx, edx}
 use Rattle.symbolic_tiles.specs.declared.symbolic_op.SymbolicOperand.TheVariants.{Temporary, Location}
 use Rattle.symbolic_tiles.specs.declared.symbolic_op.SymbolicOp.{SymbolicOp}
 use Rattle.symbolic_tiles.specs.declared.symbolic_op.SymbolicOp.TheVariants.{Mov, MovImmediate, Put, Alu, AluImmediate, Test, Invert, Negate, Multiply, MultiplyWide, Divide, MoveIf, Signs, FetchByte, SetByte}

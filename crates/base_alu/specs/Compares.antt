@@ -6,7 +6,7 @@ use Rattle.ppc_isa.specs.declared.instr.CompareImmediateOp.TheVariants.{Cmpi, Cm
 use Rattle.ppc_isa.specs.declared.instr.CompareOp.{CompareOp}
 use Rattle.ia_codec.specs.declared.op.AluOp.TheVariants.{Cmp}
 use Rattle.ia_codec.specs.declared.op.Condition.TheVariants.{Below, Less}
-use Rattle.reg_map.specs.Registers.{eax}
+use Rattle.ia_codec.specs.Registers.{eax}
 use Rattle.symbolic_tiles.specs.declared.symbolic_op.SymbolicOperand.TheVariants.{Location}
 use Rattle.symbolic_tiles.specs.declared.symbolic_op.SymbolicOp.{SymbolicOp}
 use Rattle.symbolic_tiles.specs.declared.symbolic_op.SymbolicOp.TheVariants.{Mov, Alu, AluImmediate}

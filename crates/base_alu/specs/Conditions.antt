@@ -6,7 +6,7 @@ use Rattle.ppc_isa.specs.declared.instr.CrLogicOp.TheVariants.{Crand, Cror, Crxo
 use Rattle.ppc_isa.specs.Locations.{cr}
 use Rattle.ia_codec.specs.declared.op.AluOp.TheVariants.{Or, And, Xor}
 use Rattle.ia_codec.specs.declared.op.ShiftOp.TheVariants.{Shl, Shr}
-use Rattle.reg_map.specs.Registers.{eax, ecx}
+use Rattle.ia_codec.specs.Registers.{eax, ecx}
 use Rattle.symbolic_tiles.specs.declared.symbolic_op.SymbolicOperand.TheVariants.{Temporary, Location}
 use Rattle.symbolic_tiles.specs.declared.symbolic_op.SymbolicOp.{SymbolicOp}
 use Rattle.symbolic_tiles.specs.declared.symbolic_op.SymbolicOp.TheVariants.{Mov, Put, Alu, AluImmediate, Invert, ShiftBy, FetchByte, PutByte}

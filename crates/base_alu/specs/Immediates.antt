@@ -9,7 +9,7 @@ use Rattle.ppc_isa.specs.Locations.{ca}
 use Rattle.ia_codec.specs.declared.op.AluOp.{AluOp}
 use Rattle.ia_codec.specs.declared.op.AluOp.TheVariants.{Add, Or, And, Sub, Xor}
 use Rattle.ia_codec.specs.declared.op.Condition.TheVariants.{Below, NotBelow}
-use Rattle.reg_map.specs.Registers.{eax, ecx}
+use Rattle.ia_codec.specs.Registers.{eax, ecx}
 use Rattle.machines.specs.Guest.{logic_word}
 use Rattle.symbolic_tiles.specs.declared.symbolic_op.SymbolicOperand.TheVariants.{Temporary, Location}
 use Rattle.symbolic_tiles.specs.declared.symbolic_op.SymbolicOp.{SymbolicOp}

@@ -8,7 +8,7 @@ use Rattle.ia_codec.specs.declared.op.AluOp.TheVariants.{Or, And, Xor}
 use Rattle.ia_codec.specs.declared.op.ShiftOp.TheVariants.{Shl, Shr}
 use Rattle.ia_codec.specs.declared.op.ExtendOp.TheVariants.{MovsxByte, MovsxHalf}
 use Rattle.ia_codec.specs.declared.op.Condition.TheVariants.{Equal}
-use Rattle.reg_map.specs.Registers.{eax, edx}
+use Rattle.ia_codec.specs.Registers.{eax, edx}
 use Rattle.symbolic_tiles.specs.declared.symbolic_op.SymbolicOperand.TheVariants.{Location}
 use Rattle.symbolic_tiles.specs.declared.symbolic_op.SymbolicOp.{SymbolicOp}
 use Rattle.symbolic_tiles.specs.declared.symbolic_op.SymbolicOp.TheVariants.{Mov, MovImmediate, Put, Alu, AluImmediate, Invert, Widen, MoveIf, Scan}

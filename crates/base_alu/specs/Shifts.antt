@@ -9,7 +9,7 @@ use Rattle.ia_codec.specs.declared.op.AluOp.TheVariants.{Or, And, Xor}
 use Rattle.ia_codec.specs.declared.op.ShiftOp.{ShiftOp}
 use Rattle.ia_codec.specs.declared.op.ShiftOp.TheVariants.{Rol, Shl, Sar}
 use Rattle.ia_codec.specs.declared.op.Condition.TheVariants.{NotEqual}
-use Rattle.reg_map.specs.Registers.{eax, ecx, edx}
+use Rattle.ia_codec.specs.Registers.{eax, ecx, edx}
 use Rattle.symbolic_tiles.specs.declared.symbolic_op.SymbolicOperand.TheVariants.{Temporary, Location}
 use Rattle.symbolic_tiles.specs.declared.symbolic_op.SymbolicOp.{SymbolicOp}
 use Rattle.symbolic_tiles.specs.declared.symbolic_op.SymbolicOp.TheVariants.{Mov, MovImmediate, Put, Alu, AluImmediate, TestImmediate, ShiftBy, ShiftCl, MoveIf, SetByte}

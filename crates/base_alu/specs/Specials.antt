@@ -3,7 +3,7 @@ use Rattle.std.specs.Prelude.{ℕ, ◌+◌, List, [], ◌∷◌, if◌then◌els
 use Rattle.ppc_isa.specs.Locations.{ca, so, ov, xc}
 use Rattle.ia_codec.specs.declared.op.AluOp.TheVariants.{Or, And}
 use Rattle.ia_codec.specs.declared.op.ShiftOp.TheVariants.{Shl, Shr}
-use Rattle.reg_map.specs.Registers.{eax, ecx}
+use Rattle.ia_codec.specs.Registers.{eax, ecx}
 use Rattle.symbolic_tiles.specs.declared.symbolic_op.SymbolicOperand.TheVariants.{Temporary, Location}
 use Rattle.symbolic_tiles.specs.declared.symbolic_op.SymbolicOp.{SymbolicOp}
 use Rattle.symbolic_tiles.specs.declared.symbolic_op.SymbolicOp.TheVariants.{Mov, Put, Alu, AluImmediate, ShiftBy, FetchByte, PutByte}

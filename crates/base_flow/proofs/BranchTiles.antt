@@ -17,7 +17,7 @@ use Rattle.reg_map.specs.Home.{location_range}
 use Rattle.machines.specs.Memory.{update, Rights}
 use Rattle.machines.specs.Guest.{Guest, cr_word, behind, branch_target, linked, register_target, branches}
 use Rattle.machines.specs.Host.{Choice}
-use Rattle.machines.specs.Representation.{AreInRange}
+use Rattle.reg_map.specs.Representation.{AreInRange}
 use Rattle.symbolic_tiles.specs.declared.tile_item.TileItem.{TileItem}
 use Rattle.symbolic_tiles.specs.declared.tile_item.TileItem.TheVariants.{BranchTo, BranchIndirect}
 use Rattle.symbolic_tiles.specs.TileItems.{doing, AreItems}

@@ -12,7 +12,7 @@ use Rattle.base_flow.specs.SystemCall.{done_items, error_items, failure_items, s
 use Rattle.machines.specs.Memory.{update, block, put_block, each_byte, Rights}
 use Rattle.machines.specs.Guest.{Guest, behind, after_guest_call, guest_asks, guest_system_call, without_so, with_so}
 use Rattle.machines.specs.Host.{Choice}
-use Rattle.machines.specs.Representation.{AreInRange}
+use Rattle.reg_map.specs.Representation.{AreInRange}
 use Rattle.symbolic_tiles.specs.Row.{WritesHeld}
 use Rattle.base_flow.specs.Tile.{items_of}
 use Rattle.symbolic_tiles.specs.TileItems.{IsFree, AreItems}

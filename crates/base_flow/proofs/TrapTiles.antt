@@ -16,7 +16,7 @@ use Rattle.runs.specs.Machine.{Goes, Ends}
 use Rattle.machines.specs.Memory.{Rights}
 use Rattle.machines.specs.Guest.{Guest, behind, at_next}
 use Rattle.machines.specs.Host.{Choice}
-use Rattle.machines.specs.Representation.{AreInRange}
+use Rattle.reg_map.specs.Representation.{AreInRange}
 use Rattle.symbolic_tiles.specs.declared.symbolic_op.SymbolicOp.{SymbolicOp}
 use Rattle.symbolic_tiles.specs.declared.tile_item.TileItem.{TileItem}
 use Rattle.symbolic_tiles.specs.declared.tile_item.TileItem.TheVariants.{Label, BranchTo, Trap as Int3}

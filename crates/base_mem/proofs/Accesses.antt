@@ -12,7 +12,7 @@ use Rattle.runs.specs.Machine.{Goes, Ends}
 use Rattle.machines.specs.Memory.{update, load, store, load_big, store_big, each_byte, Rights}
 use Rattle.machines.specs.Guest.{Guest, effect_of, guest_acts, at_next, load_outcome}
 use Rattle.machines.specs.Host.{Choice}
-use Rattle.machines.specs.Representation.{AreInRange}
+use Rattle.reg_map.specs.Representation.{AreInRange}
 use Rattle.symbolic_tiles.specs.Row.{span, WritesHeld}
 use Rattle.symbolic_tiles.specs.declared.symbolic_op.SymbolicOp.{SymbolicOp}
 use Rattle.symbolic_tiles.specs.SymbolicOps.{AreWellFormed}

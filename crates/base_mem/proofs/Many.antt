@@ -11,7 +11,7 @@ use Rattle.reg_map.specs.Home.{location_range}
 use Rattle.machines.specs.Memory.{update, load, store, load_big, store_big, each_byte, Rights}
 use Rattle.machines.specs.Guest.{Guest, at_next, put_loaded, store_registers}
 use Rattle.machines.specs.Host.{Choice}
-use Rattle.machines.specs.Representation.{AreInRange}
+use Rattle.reg_map.specs.Representation.{AreInRange}
 use Rattle.symbolic_tiles.specs.SymbolicOps.{AreWellFormed}
 use Rattle.base_mem.specs.Addresses.{immediate_address}
 use Rattle.base_mem.specs.Multiple.{one_load, lmw_ops, one_store, stmw_ops}

@@ -2,7 +2,7 @@
 use Rattle.std.specs.Prelude.{ℕ, Bool, true, false, List, [], ◌∷◌}
 use Rattle.word_kit.specs.Words.{sign_extended}
 use Rattle.ia_codec.specs.declared.op.AluOp.TheVariants.{Add}
-use Rattle.reg_map.specs.Registers.{edx}
+use Rattle.ia_codec.specs.Registers.{edx}
 use Rattle.symbolic_tiles.specs.declared.symbolic_op.SymbolicOperand.TheVariants.{Location}
 use Rattle.symbolic_tiles.specs.declared.symbolic_op.SymbolicOp.{SymbolicOp}
 use Rattle.symbolic_tiles.specs.declared.symbolic_op.SymbolicOp.TheVariants.{Mov, MovImmediate, Alu, AluImmediate}

@@ -10,7 +10,7 @@ use Rattle.ppc_isa.specs.declared.instr.LoadIndexedUpdateOp.{LoadIndexedUpdateOp
 use Rattle.ppc_isa.specs.declared.instr.LoadIndexedUpdateOp.TheVariants.{Lwzux, Lbzux, Lhzux, Lhaux}
 use Rattle.ia_codec.specs.declared.op.ShiftOp.{ShiftOp}
 use Rattle.ia_codec.specs.declared.op.ShiftOp.TheVariants.{Shr, Sar}
-use Rattle.reg_map.specs.Registers.{eax, edx}
+use Rattle.ia_codec.specs.Registers.{eax, edx}
 use Rattle.symbolic_tiles.specs.declared.symbolic_op.AccessSize.TheVariants.{Byte, Half, Word}
 use Rattle.symbolic_tiles.specs.declared.symbolic_op.SymbolicOp.{SymbolicOp}
 use Rattle.symbolic_tiles.specs.declared.symbolic_op.SymbolicOp.TheVariants.{Put, ShiftBy, SwapBytes, Load}

@@ -9,7 +9,7 @@ use Rattle.ppc_isa.specs.declared.instr.StoreIndexedOp.TheVariants.{Stwx, Stbx, 
 use Rattle.ppc_isa.specs.declared.instr.StoreIndexedUpdateOp.{StoreIndexedUpdateOp}
 use Rattle.ppc_isa.specs.declared.instr.StoreIndexedUpdateOp.TheVariants.{Stwux, Stbux, Sthux}
 use Rattle.ia_codec.specs.declared.op.ShiftOp.TheVariants.{Shr}
-use Rattle.reg_map.specs.Registers.{eax, edx}
+use Rattle.ia_codec.specs.Registers.{eax, edx}
 use Rattle.symbolic_tiles.specs.declared.symbolic_op.SymbolicOperand.TheVariants.{Location}
 use Rattle.symbolic_tiles.specs.declared.symbolic_op.AccessSize.TheVariants.{Byte, Half, Word}
 use Rattle.symbolic_tiles.specs.declared.symbolic_op.SymbolicOp.{SymbolicOp}

@@ -5,7 +5,7 @@ use Rattle.ia_codec.specs.Spelling.{condition_number, spelling}
 use Rattle.ia_codec.specs.declared.op.Op.{Op}
 use Rattle.ia_codec.specs.declared.op.Op.TheVariants.{Jcc, Jmp, JmpTo}
 use Rattle.ia_codec.specs.declared.op.Operand.TheVariants.{Base}
-use Rattle.reg_map.specs.Registers.{eax}
+use Rattle.ia_codec.specs.Registers.{eax}
 use Rattle.ia_codec.specs.declared.op.Condition.{Condition}
 use Rattle.ia_codec.specs.declared.op.Condition.TheVariants.{Below, NotBelow, Equal, NotEqual, NotAbove, Above, Sign, NotSign, Less, NotLess, NotGreater, Greater}
 pub use Rattle.reg_map.specs.Relocated.{operand_at, op_at, IsPlaceable}

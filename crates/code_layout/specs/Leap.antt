@@ -4,7 +4,7 @@ use Rattle.ia_codec.specs.declared.op.AluOp.TheVariants.{And, Sub, Cmp}
 use Rattle.ia_codec.specs.declared.op.Op.{Op}
 use Rattle.ia_codec.specs.declared.op.Op.TheVariants.{AluImm, MovTo}
 use Rattle.ia_codec.specs.declared.op.Operand.TheVariants.{Reg}
-use Rattle.reg_map.specs.Registers.{eax, ecx}
+use Rattle.ia_codec.specs.Registers.{eax, ecx}
 
 -- its ops before its jumps: ecx, which has the target, without its two low bits; that less the first code word's address
 -- in eax, compared with the length of the code in bytes

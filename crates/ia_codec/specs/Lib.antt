@@ -13,3 +13,4 @@ pub mod Scan
 pub mod Conditions
 pub mod Rows
 pub mod RowExamples
+pub mod Registers

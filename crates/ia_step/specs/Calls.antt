@@ -6,7 +6,7 @@ use Rattle.space.specs.declared.call.End.TheVariants.{Outside}
 use Rattle.space.specs.declared.program.Program.{Program}
 use Rattle.space.specs.Reports.{ListedCall, AnswerValue, given}
 use Rattle.runs.specs.Machine.{Outcome, Ends}
-use Rattle.reg_map.specs.Registers.{ebx, ecx, edx}
+use Rattle.ia_codec.specs.Registers.{ebx, ecx, edx}
 use Rattle.machines.specs.Memory.{rights_of}
 use Rattle.machines.specs.Host.{Host, after_host_call, host_asks}
 use Rattle.machine_calls.specs.Calls.{listed_as, listed_call, is_buffer}

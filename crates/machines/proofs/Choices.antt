@@ -14,7 +14,7 @@ use Rattle.ia_codec.specs.declared.op.UnaryOp.TheVariants.{Div, Idiv}
 use Rattle.ia_codec.specs.declared.op.Operand.{Operand}
 use Rattle.ia_codec.specs.Effect.{Flags}
 use Rattle.ia_codec.specs.Rows.{host_row}
-use Rattle.reg_map.specs.Registers.{eax, ecx, edx, ebx}
+use Rattle.ia_codec.specs.Registers.{eax, ecx, edx, ebx}
 use Rattle.machines.specs.Memory.{Rights, Code, is_code, each_byte, block, rights_of, code_of, first_bytes}
 use Rattle.machines.specs.Readings.{Fetched}
 use Rattle.machines.specs.Host.{Choice, Core, Host, no_choice, choice_at, chosen_word, chosen_flags, place_of, host_values, reads, does, goes_to, plain, jumps, jumps_to, faults_on, divides, unary_acts, after_host_call, host_asks, host_system_call, host_acts, host_executes, op_bytes, host_step, host_machine, host_start}

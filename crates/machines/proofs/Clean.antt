@@ -10,7 +10,7 @@ use Rattle.ia_codec.specs.declared.op.UnaryOp.{UnaryOp}
 use Rattle.ia_codec.specs.declared.op.UnaryOp.TheVariants.{Not, Neg, Div, Idiv}
 use Rattle.ia_codec.specs.declared.op.Operand.{Operand}
 use Rattle.ia_codec.specs.declared.op.Operand.TheVariants.{Reg}
-use Rattle.reg_map.specs.Registers.{eax, ecx, edx}
+use Rattle.ia_codec.specs.Registers.{eax, ecx, edx}
 use Rattle.machines.specs.Memory.{each_byte, Rights, Code, is_code}
 use Rattle.machines.specs.Readings.{Fetched}
 use Rattle.machines.specs.Host.{Core, Host, Place, Register, Memory, place_of, choice_at, has_result, extend_size, bind, reads, gives_to, changes, sets, sets_byte, multiplies, goes_to, jumps_to, faults_on, unary_acts, host_system_call, host_acts, host_executes, op_bytes, host_step}

@@ -10,7 +10,6 @@ pub mod Calls
 pub mod Choices
 pub mod HostSmall
 pub mod Clean
-pub mod Homes
 pub mod AccessSmall
 pub mod BranchSmall
 pub mod HostOpsSmall

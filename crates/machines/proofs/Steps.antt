@@ -13,7 +13,7 @@ use Rattle.ppc_isa.specs.Reading.{read}
 use Rattle.ppc_isa.proofs.ReadWords.{read_legal}
 use Rattle.ppc_isa.specs.Legal.{IsWordOf, Allowed, layout}
 use Rattle.ppc_isa.specs.Word.{Field, word, Fit}
-use Rattle.reg_map.specs.Words.{sign_extended}
+use Rattle.word_kit.specs.Words.{sign_extended}
 use Rattle.machines.specs.Memory.{rights_of, code_of}
 use Rattle.machines.specs.Readings.{ReadsWords}
 use Rattle.machines.specs.Guest.{Guest, guest_machine, guest_acts, guest_executes, effect_of, is_code_word, word_at, branch_target, writes, guest_system_call, after_guest_call, guest_asks as asks_for}

@@ -20,7 +20,7 @@ use Rattle.ppc_isa.specs.declared.instr.BranchRegisterOp.TheVariants.{Bclr, Bcct
 use Rattle.ppc_isa.specs.Locations.{immediate_carries, immediate_records, carry_out, unary_carry, logic_immediate_records, logic_carries}
 use Rattle.ppc_isa.specs.Effect.{GuestValues, Effect, Access, NoAccess, LoadAccess, StoreAccess}
 use Rattle.ppc_isa.specs.Rows.{guest_row}
-use Rattle.reg_map.specs.Words.{sign_extended}
+use Rattle.word_kit.specs.Words.{sign_extended}
 use Rattle.machines.specs.Memory.{update, load_big, store_big, block, put_block, each_byte, Rights, Code, code_byte, rights_of, code_of, first_bytes}
 
 -- A value for each location, the next instruction's address, and memory. Locations are numbers: GPR g is g, LR 32,

@@ -16,7 +16,7 @@ use Rattle.ia_codec.specs.declared.op.Operand.{Operand}
 use Rattle.ia_codec.specs.declared.op.Operand.TheVariants.{Reg, Abs, Base, Pair}
 use Rattle.ia_codec.specs.Effect.{Flags, HostValues, HostEffect}
 use Rattle.ia_codec.specs.Rows.{host_row}
-use Rattle.reg_map.specs.Registers.{eax, ecx, edx, ebx}
+use Rattle.ia_codec.specs.Registers.{eax, ecx, edx, ebx}
 use Rattle.machines.specs.Memory.{update, load, store, block, put_block, each_byte, Rights, Code, is_code, rights_of, code_of, first_bytes}
 use Rattle.machines.specs.Readings.{Fetched}
 

@@ -4,7 +4,6 @@ use Rattle.space.specs.declared.program.Program.{Program}
 use Rattle.space.specs.declared.call.End.TheVariants.{Running}
 use Rattle.space.specs.Reports.{ListedCall, AnswerValue}
 use Rattle.ppc_isa.specs.declared.instr.Instr.{Instr}
-use Rattle.reg_map.specs.Home.{home, home_size, location_count}
 use Rattle.machines.specs.Readings.{ReadsWords, Fetched, ReadsOps}
 use Rattle.machines.specs.Guest.{guest_run}
 use Rattle.machines.specs.Host.{Choice, choice_at, host_run}
@@ -49,9 +48,3 @@ abbrev pub UsesFirstChoices : Type 0
 UsesFirstChoices =
     (ops : List ℕ → Option Fetched) (p : Program) (answers : List AnswerValue) (choices others : List Choice) (m : ℕ) →
     ((k : ℕ) → k < 9 + m → choice_at choices k ≡ choice_at others k) → host_run ops p answers choices m ≡ host_run ops p answers others m
-
--- every home lies in the home page, and no two share a byte
-abbrev pub HomesAreApart : Type 0
-HomesAreApart =
-    (x y i j : ℕ) → x < location_count → y < location_count → x ≢ y → i < home_size x → j < home_size y →
-    (home x + i < 4096) × (home x + i ≢ home y + j)

@@ -3,8 +3,6 @@ pub mod Readings
 pub mod Guest
 pub mod Host
 pub mod Agreement
-pub mod Representation
 pub mod Examples
 pub mod Laws
 pub mod HostExamples
-pub mod Files

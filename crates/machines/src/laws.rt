@@ -1,11 +1,8 @@
 //! What holds of the two machines. Each law is the contract of a function that does nothing.
 
-ghost use Rattle.machines.specs.Laws.{GuestStaysOver, HostStaysOver, GuestKeepsCalls, HostKeepsCalls, HasWordReading, HasOpReading, HaveOneWordReading, HaveOneOpReading, UsesFirstChoices, HomesAreApart};
+ghost use Rattle.machines.specs.Laws.{GuestStaysOver, HostStaysOver, GuestKeepsCalls, HostKeepsCalls, HasWordReading, HasOpReading, HaveOneWordReading, HaveOneOpReading, UsesFirstChoices};
 ghost use Rattle.space.specs.declared.program.Program.{Program};
 ghost use Rattle.machines.specs.Agreement.{AgreesWith, AgreesNarrowly, CleanReadsNoCode};
-ghost use Rattle.machines.specs.Files.{Agrees};
-ghost use Rattle.elf_load.specs.Faults.{IsProgramOf};
-ghost use Rattle.space.specs.declared.program.Kind.TheVariants.{Ia32};
 ghost use Rattle.std.specs.Prelude.{◌≡◌, ◌++◌, ℕ, List};
 ghost use Rattle.ppc_isa.specs.Legal.{HasOneInstruction};
 ghost use Rattle.ia_codec.specs.Spelling.{spelling, IsInProfile};
@@ -72,8 +69,7 @@ pub fn codes_are_unique()
 
 /// A translation that agrees even where its code can't be read as data agrees, and its steps are clean.
 pub fn agrees_if_narrowly()
-    ensures programs { (p q : Program) → AgreesNarrowly p q → AgreesWith p q }
-    ensures files { (p q : Program) (file : List ℕ) → IsProgramOf Ia32 file q → AgreesNarrowly p q → Agrees p file }
+    ensures { (p q : Program) → AgreesNarrowly p q → AgreesWith p q }
 {
     agrees_in_larger::<Brand, Brand>();
 }
@@ -81,9 +77,4 @@ pub fn agrees_if_narrowly()
 /// Where a step is clean, the host makes it also without the right to read its code.
 pub fn clean_reads_no_code()
     ensures { CleanReadsNoCode }
-{}
-
-/// Every home lies in the home page, and no two share a byte.
-pub fn homes_are_apart()
-    ensures { HomesAreApart }
 {}

@@ -9,14 +9,14 @@ use Rattle.ia_codec.specs.Spelling.{IsReg}
 use Rattle.ia_codec.specs.declared.op.Op.TheVariants.{AluImm, MovTo, MovFrom}
 use Rattle.ia_codec.specs.declared.op.AluOp.TheVariants.{Add}
 use Rattle.ia_codec.specs.declared.op.Operand.TheVariants.{Reg, Abs}
-use Rattle.reg_map.specs.Registers.{ebx, esi}
+use Rattle.ia_codec.specs.Registers.{ebx, esi}
 use Rattle.reg_map.specs.Place.{slot_of}
 use Rattle.base_alu.specs.Tile.{tile as alu_tile}
 use Rattle.base_flow.specs.Tile.{tile as flow_tile}
 use Rattle.machines.specs.Memory.{rights_of, code_of}
 use Rattle.machines.specs.Readings.{Fetched, ReadsWords, ReadsOps}
 use Rattle.machines.specs.Guest.{behind, is_code_word, word_at, guest_executes}
-use Rattle.machines.specs.Representation.{IsHomePage}
+use Rattle.reg_map.specs.Representation.{IsHomePage}
 use Rattle.symbolic_tiles.specs.Flow.{Fits, flow}
 use Rattle.base_alu.proofs.Tiles.{tiles_are_placeable, tiles_do_rows}
 use Rattle.base_flow.proofs.Tiles.{flow_tiles_do_rows}

@@ -5,13 +5,13 @@ use Rattle.ia_codec.specs.declared.op.AluOp.TheVariants.{Add}
 use Rattle.ia_codec.specs.declared.op.Op.TheVariants.{AluImm}
 use Rattle.ia_codec.specs.declared.op.Operand.TheVariants.{Reg}
 use Rattle.ia_codec.specs.Rows.{sum_word, sum_flags}
-use Rattle.reg_map.specs.Registers.{esi}
+use Rattle.ia_codec.specs.Registers.{esi}
 use Rattle.reg_map.specs.Home.{home, home_size, location_range}
 use Rattle.runs.specs.Machine.{Goes}
 use Rattle.machines.specs.Memory.{update}
 use Rattle.machines.specs.Guest.{Guest, behind}
 use Rattle.machines.specs.Host.{Core, Memory, value_at}
-use Rattle.machines.specs.Representation.{in_slot, location_place, AreInRange}
+use Rattle.reg_map.specs.Representation.{in_slot, location_place, AreInRange}
 use Rattle.symbolic_tiles.specs.Row.{TilePostcondition, Implements}
 use Rattle.symbolic_tiles.proofs.Memory.{update_other, update_keeps}
 use Rattle.plan_example.specs.Example.{in_esi, both_adds}

@@ -12,7 +12,7 @@ use Rattle.ia_codec.specs.Spelling.{spelling}
 use Rattle.ia_codec.specs.declared.op.Op.TheVariants.{AluImm, MovTo, MovFrom, Jmp}
 use Rattle.ia_codec.specs.declared.op.AluOp.TheVariants.{Add}
 use Rattle.ia_codec.specs.declared.op.Operand.TheVariants.{Reg, Abs}
-use Rattle.reg_map.specs.Registers.{ebx, esi}
+use Rattle.ia_codec.specs.Registers.{ebx, esi}
 use Rattle.reg_map.specs.Home.{gpr_home}
 use Rattle.base_alu.specs.Tile.{tile as alu_tile}
 use Rattle.base_flow.specs.Tile.{tile as flow_tile}

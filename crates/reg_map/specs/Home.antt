@@ -49,3 +49,9 @@ home_size x = cond (is_word_location x) 4 1
 -- the values of a location are below this: a word, a CR field of four bits, a bit of XER, or XC of seven bits
 abbrev pub location_range : ℕ → ℕ
 location_range x = cond (is_word_location x) (2 ^ 32) (cond (ltb x 42) 16 (cond (ltb x 45) 2 128))
+
+-- every home lies in the home page, and no two share a byte
+abbrev pub HomesAreApart : Type 0
+HomesAreApart =
+    (x y i j : ℕ) → x < location_count → y < location_count → x ≢ y → i < home_size x → j < home_size y →
+    (home x + i < 4096) × (home x + i ≢ home y + j)

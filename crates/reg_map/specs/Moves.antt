@@ -6,7 +6,7 @@ use Rattle.ppc_isa.specs.Map.{IsMap}
 use Rattle.ia_codec.specs.declared.op.Op.{Op}
 use Rattle.ia_codec.specs.declared.op.Op.TheVariants.{MovTo, MovFrom}
 use Rattle.ia_codec.specs.declared.op.Operand.TheVariants.{Abs}
-use Rattle.reg_map.specs.Registers.{ebx, esi, edi}
+use Rattle.ia_codec.specs.Registers.{ebx, esi, edi}
 use Rattle.reg_map.specs.Home.{gpr_home}
 use Rattle.reg_map.specs.Place.{slot_of}
 use Rattle.reg_map.specs.declared.moves.Move.{Move}

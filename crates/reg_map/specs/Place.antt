@@ -4,7 +4,7 @@ use Rattle.ppc_isa.specs.declared.map.Map.{Map}
 pub use Rattle.ppc_isa.specs.Map.{IsMap}
 use Rattle.ia_codec.specs.declared.op.Operand.{Operand}
 use Rattle.ia_codec.specs.declared.op.Operand.TheVariants.{Reg, Abs}
-use Rattle.reg_map.specs.Registers.{ebx, esi, edi}
+use Rattle.ia_codec.specs.Registers.{ebx, esi, edi}
 use Rattle.reg_map.specs.Home.{gpr_home}
 
 -- the map that holds no GPR

@@ -1,7 +1,7 @@
 //! Offsets in the home page, where locations stand that no register of the host holds.
 
 ghost use Rattle.std.specs.Prelude.{◌≡◌, ◌<◌};
-ghost use Rattle.reg_map.specs.Home.{gpr_home as home_of, cr_home};
+ghost use Rattle.reg_map.specs.Home.{gpr_home as home_of, cr_home, HomesAreApart};
 
 /// The offset of the home byte of CR field 0; field f follows f bytes later.
 pub const CR_HOME: u32 = 136;
@@ -17,4 +17,9 @@ pub fn gpr_home(g: u8) -> u32
 /// The constant is what the definition says.
 pub fn cr_has_its_home()
     ensures { CR_HOME ≡ cr_home 0 }
+{}
+
+/// Every home lies in the home page, and no two share a byte.
+pub fn homes_are_apart()
+    ensures { HomesAreApart }
 {}

@@ -8,7 +8,7 @@ mod registers;
 mod spelled;
 mod words;
 
-pub use home::{CR_HOME, cr_has_its_home, gpr_home};
+pub use home::{CR_HOME, cr_has_its_home, gpr_home, homes_are_apart};
 pub use moves::{Move, code_of_move, moves_move_one};
 pub use place::loc;
 pub use registers::{EAX, EBX, ECX, EDI, EDX, ESI, registers_have_their_numbers};

@@ -15,7 +15,7 @@ use Rattle.ppc_isa.specs.Rows.{guest_row}
 use Rattle.machines.specs.Memory.{update, store_big, each_byte, Rights}
 use Rattle.machines.specs.Guest.{Guest, guest_values, loaded_in, effect_of, at_next, load_outcome, store_outcome, put_cr, put_loaded, store_registers, linked}
 use Rattle.row_laws.specs.Laws.{Next, AgreeBut, ChangesItsWritesAlone}
-use Rattle.row_laws.proofs.Instructions.{Instr, Immediate, LogicImmediate, Load, Store, LoadUpdate, StoreUpdate, Multiple, TrapImmediate, CompareImmediate, Rotate, Branch, BranchConditional, SystemCall, Arithmetic, ArithmeticUnary, Logic, ShiftImmediate, LogicUnary, Compare, Trap, MoveFromCr, MoveToCr, MoveFromSpr, MoveToSpr, Sync, LoadIndexed, StoreIndexed, LoadIndexedUpdate, StoreIndexedUpdate, MoveCrField, CrLogic, Isync, BranchRegister, Lmw, Stmw, CompareImmediateOp, Cmpi, Cmpli, CompareOp, Cmp, Cmpl}
+use Rattle.ppc_isa.specs.Instruction.{Instr, Immediate, LogicImmediate, Load, Store, LoadUpdate, StoreUpdate, Multiple, TrapImmediate, CompareImmediate, Rotate, Branch, BranchConditional, SystemCall, Arithmetic, ArithmeticUnary, Logic, ShiftImmediate, LogicUnary, Compare, Trap, MoveFromCr, MoveToCr, MoveFromSpr, MoveToSpr, Sync, LoadIndexed, StoreIndexed, LoadIndexedUpdate, StoreIndexedUpdate, MoveCrField, CrLogic, Isync, BranchRegister, Lmw, Stmw, CompareImmediateOp, Cmpi, Cmpli, CompareOp, Cmp, Cmpl}
 use Rattle.row_laws.proofs.Lists.{Lacks, not_first, not_later, not_left, not_right}
 use Rattle.row_laws.proofs.Shapes.{shifts, gives_in_a, immediate_carry, arithmetic_carry, arithmetic_unary_carry, logic_carry, immediate_gives, arithmetic_gives, arithmetic_unary_gives, logic_gives, logic_unary_gives}
 use Rattle.row_laws.proofs.Kept.{next_cond, update_other, field_alone, bit_alone, Stands, results_kept, special_kept, fields_kept, loaded_kept, linked_kept, counted_kept, call_kept}

@@ -15,7 +15,7 @@ use Rattle.ppc_isa.specs.Rows.{load_row, load_update_row, load_indexed_row, load
 use Rattle.machines.specs.Memory.{update, store_big, Rights}
 use Rattle.machines.specs.Guest.{Guest, guest_values, effect_of, guest_acts, at_next, cr_word, xer_word, put_cr, put_loaded, store_registers, results, put_special, register_target, branch_target}
 use Rattle.row_laws.specs.Laws.{Alike, AreSame, DependsOnItsReadsAlone}
-use Rattle.row_laws.proofs.Instructions.{Instr, Immediate, LogicImmediate, Load, Store, LoadUpdate, StoreUpdate, Multiple, TrapImmediate, CompareImmediate, Rotate, Branch, BranchConditional, SystemCall, Arithmetic, ArithmeticUnary, Logic, ShiftImmediate, LogicUnary, Compare, Trap, MoveFromCr, MoveToCr, MoveFromSpr, MoveToSpr, Sync, LoadIndexed, StoreIndexed, LoadIndexedUpdate, StoreIndexedUpdate, MoveCrField, CrLogic, Isync, BranchRegister, ImmediateOp, LogicImmediateOp, LoadOp, StoreOp, LoadUpdateOp, StoreUpdateOp, LoadIndexedOp, StoreIndexedOp, LoadIndexedUpdateOp, StoreIndexedUpdateOp, RotateOp, ArithmeticOp, ArithmeticUnaryOp, LogicOp, LogicUnaryOp, CrLogicOp, Lmw, Stmw, CompareImmediateOp, Cmpi, Cmpli, CompareOp, Cmp, Cmpl, BranchRegisterOp, Bclr, Bcctr}
+use Rattle.ppc_isa.specs.Instruction.{Instr, Immediate, LogicImmediate, Load, Store, LoadUpdate, StoreUpdate, Multiple, TrapImmediate, CompareImmediate, Rotate, Branch, BranchConditional, SystemCall, Arithmetic, ArithmeticUnary, Logic, ShiftImmediate, LogicUnary, Compare, Trap, MoveFromCr, MoveToCr, MoveFromSpr, MoveToSpr, Sync, LoadIndexed, StoreIndexed, LoadIndexedUpdate, StoreIndexedUpdate, MoveCrField, CrLogic, Isync, BranchRegister, ImmediateOp, LogicImmediateOp, LoadOp, StoreOp, LoadUpdateOp, StoreUpdateOp, LoadIndexedOp, StoreIndexedOp, LoadIndexedUpdateOp, StoreIndexedUpdateOp, RotateOp, ArithmeticOp, ArithmeticUnaryOp, LogicOp, LogicUnaryOp, CrLogicOp, Lmw, Stmw, CompareImmediateOp, Cmpi, Cmpli, CompareOp, Cmp, Cmpl, BranchRegisterOp, Bclr, Bcctr}
 use Rattle.row_laws.proofs.Fields.{InRange}
 use Rattle.row_laws.proofs.Lists.{SameIn, same_first, same_later, same_left, same_right, same_when, in_none, registers_in}
 use Rattle.row_laws.proofs.Shapes.{shifts, gives_in_a, immediate_carry, arithmetic_carry, arithmetic_unary_carry, logic_carry, immediate_gives, arithmetic_gives, arithmetic_unary_gives, logic_gives, logic_unary_gives}

@@ -1,4 +1,3 @@
-pub mod Instructions
 pub mod Digits
 pub mod Bits
 pub mod Fields

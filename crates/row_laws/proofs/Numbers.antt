@@ -12,7 +12,7 @@ use Rattle.ppc_isa.specs.ProductRows.{quotient_signed, quotient_unsigned}
 use Rattle.ppc_isa.specs.AccessRows.{half_extended, byte_extended}
 use Rattle.ppc_isa.specs.Rows.{immediate_row, arithmetic_row, arithmetic_unary_row, logic_row, logic_unary_row}
 use Rattle.machines.specs.Guest.{guest_values, immediate_word}
-use Rattle.row_laws.proofs.Instructions.{Immediate, Rotate, ImmediateOp, Addi, Addis, Addic, AddicRecord, Subfic, Mulli, RotateOp, Rlwinm, Rlwnm, Rlwimi, ArithmeticOp, Add, Addc, Adde, Subf, Subfc, Subfe, Mullw, Mulhw, Mulhwu, Divw, Divwu, ArithmeticUnaryOp, Addze, Addme, Subfze, Subfme, Neg, LogicOp, And, Or, Xor, Nand, Nor, Eqv, Andc, Orc, Slw, Srw, Sraw, LogicUnaryOp, Cntlzw, Extsb, Extsh}
+use Rattle.ppc_isa.specs.Instruction.{Immediate, Rotate, ImmediateOp, Addi, Addis, Addic, AddicRecord, Subfic, Mulli, RotateOp, Rlwinm, Rlwnm, Rlwimi, ArithmeticOp, Add, Addc, Adde, Subf, Subfc, Subfe, Mullw, Mulhw, Mulhwu, Divw, Divwu, ArithmeticUnaryOp, Addze, Addme, Subfze, Subfme, Neg, LogicOp, And, Or, Xor, Nand, Nor, Eqv, Andc, Orc, Slw, Srw, Sraw, LogicUnaryOp, Cntlzw, Extsb, Extsh}
 use Rattle.row_laws.proofs.Lists.{SameIn, same_first, same_later}
 use Rattle.row_laws.proofs.Shapes.{immediate_carry, arithmetic_carry, arithmetic_unary_carry, logic_carry}
 

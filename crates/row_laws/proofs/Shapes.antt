@@ -1,7 +1,7 @@
 -- The rows that give one result, and may record it and put CA.
 use Rattle.std.proofs.Common.{◌≡◌, ℕ, ◌%◌, Bool, true, false, cond, refl, ap}
 use Rattle.word_kit.specs.Words.{complement, sum_word, sum_carries}
-use Rattle.row_laws.proofs.Instructions.{ImmediateOp, Addi, Addis, Addic, AddicRecord, Subfic, Mulli, ArithmeticOp, Add, Addc, Adde, Subf, Subfc, Subfe, Mullw, Mulhw, Mulhwu, Divw, Divwu, ArithmeticUnaryOp, Addze, Addme, Subfze, Subfme, Neg, LogicOp, And, Or, Xor, Nand, Nor, Eqv, Andc, Orc, Slw, Srw, Sraw, LogicUnaryOp, Cntlzw, Extsb, Extsh}
+use Rattle.ppc_isa.specs.Instruction.{ImmediateOp, Addi, Addis, Addic, AddicRecord, Subfic, Mulli, ArithmeticOp, Add, Addc, Adde, Subf, Subfc, Subfe, Mullw, Mulhw, Mulhwu, Divw, Divwu, ArithmeticUnaryOp, Addze, Addme, Subfze, Subfme, Neg, LogicOp, And, Or, Xor, Nand, Nor, Eqv, Andc, Orc, Slw, Srw, Sraw, LogicUnaryOp, Cntlzw, Extsb, Extsh}
 use Rattle.ppc_isa.specs.Locations.{immediate_carries, immediate_records, carry_out, unary_carry, logic_carries}
 use Rattle.ppc_isa.specs.Effect.{GuestValues, Effect}
 use Rattle.ppc_isa.specs.Recording.{ca, with_ca, compared, recorded, gives_d, gives_a}

@@ -3,7 +3,7 @@ use Rattle.std.specs.Prelude.{ℕ, zero, suc, ◌-◌, ◌==◌, if◌then◌els
 use Rattle.ppc_isa.specs.declared.instr.Instr.{Instr}
 use Rattle.ppc_isa.specs.declared.instr.Instr.TheVariants.{Immediate, LogicImmediate, Load, Store, LoadUpdate, StoreUpdate, CompareImmediate, BranchConditional}
 use Rattle.ia_codec.specs.declared.op.Op.{Op}
-use Rattle.reg_map.specs.Registers.{ebx, esi}
+use Rattle.ia_codec.specs.Registers.{ebx, esi}
 use Rattle.rule_body.specs.declared.rule.Rule.{Rule}
 use Rattle.rule_meaning.specs.Matches.{Match, slot_register}
 use Rattle.rule_meaning.specs.LaidOps.{laid_ops}

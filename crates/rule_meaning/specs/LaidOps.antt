@@ -4,7 +4,7 @@ use Rattle.ia_codec.specs.declared.op.Operand.{Operand}
 use Rattle.ia_codec.specs.declared.op.Operand.TheVariants.{Reg, Abs, Base, Pair}
 use Rattle.ia_codec.specs.declared.op.Op.{Op}
 use Rattle.ia_codec.specs.declared.op.Op.TheVariants.{AluTo, AluFrom, AluImm, TestReg, TestImm, Unary, Imul, MovTo, MovFrom, MovImm, MovToImm, MovHalfTo, MovByteTo, MovByteFrom, Shift, ShiftByCl, Lea, Extend, Bswap, Set, Cmov, Bsr}
-use Rattle.reg_map.specs.Registers.{ebx, esi, edi}
+use Rattle.ia_codec.specs.Registers.{ebx, esi, edi}
 use Rattle.rule_body.specs.declared.body.Body.{Body}
 use Rattle.rule_body.specs.declared.line.Hole.{Hole}
 use Rattle.rule_body.specs.declared.line.HostLine.{HostLine}

@@ -6,7 +6,7 @@ use Rattle.ppc_isa.specs.declared.instr.Instr.TheVariants.{Immediate, Load, Stor
 use Rattle.ppc_isa.specs.declared.instr.ImmediateOp.TheVariants.{Addi, Addis}
 use Rattle.ppc_isa.specs.declared.map.Map.{Map}
 use Rattle.reg_map.specs.Place.{slot_of}
-use Rattle.reg_map.specs.Registers.{ebx, esi, edi}
+use Rattle.ia_codec.specs.Registers.{ebx, esi, edi}
 use Rattle.rule_body.specs.declared.line.Hole.{Hole}
 use Rattle.rule_body.specs.declared.line.Hole.TheVariants.{S, Z, H, N}
 use Rattle.rule_body.specs.Templates.{slot_count}

@@ -10,7 +10,7 @@ use Rattle.ia_codec.specs.declared.op.Op.{Op}
 use Rattle.ia_codec.specs.declared.op.Op.TheVariants.{AluTo, AluFrom, AluImm, TestReg, TestImm, Unary, Imul, MovTo, MovFrom, MovImm, MovToImm, MovHalfTo, MovByteTo, MovByteFrom, Shift, ShiftByCl, Lea, Extend, Bswap, Set, Cmov, Bsr, Cdq}
 use Rattle.ia_codec.specs.Effect.{Flags, HostValues, HostEffect}
 use Rattle.ia_codec.specs.Rows.{host_row}
-use Rattle.reg_map.specs.Registers.{eax, ecx, edx}
+use Rattle.ia_codec.specs.Registers.{eax, ecx, edx}
 use Rattle.machines.specs.Memory.{Rights, update}
 use Rattle.machines.specs.Host.{Choice, Core, place_of, address_in, byte_for, puts_both, host_values, reads, puts, bind, does, extend_size}
 use Rattle.rule_body.specs.Ops.{is_straight}

@@ -5,7 +5,7 @@ use Rattle.std.specs.Int.Bits.{and_zero_l}
 use Rattle.runs.specs.Machine.{Goes}
 use Rattle.ppc_isa.specs.declared.map.Map.{Map}
 use Rattle.ppc_isa.specs.Legal.{HasOneInstruction, IsWordOf}
-use Rattle.row_laws.proofs.Instructions.{Instr, Arithmetic, Add}
+use Rattle.ppc_isa.specs.Instruction.{Instr, Arithmetic, Add}
 use Rattle.row_laws.proofs.Lists.{first_in}
 use Rattle.ia_codec.specs.declared.op.Condition.{Condition}
 use Rattle.ia_codec.specs.declared.op.Operand.TheVariants.{Pair}
@@ -15,7 +15,7 @@ use Rattle.reg_map.specs.Place.{slot_of}
 use Rattle.machines.specs.Memory.{update, Rights}
 use Rattle.machines.specs.Guest.{Guest, at_next}
 use Rattle.machines.specs.Host.{Core, Memory, value_at}
-use Rattle.machines.specs.Representation.{in_slot, location_place}
+use Rattle.reg_map.specs.Representation.{in_slot, location_place}
 use Rattle.symbolic_tiles.specs.Relocated.{op_at}
 use Rattle.symbolic_tiles.specs.Row.{TilePrecondition, TilePostcondition, Implements}
 use Rattle.symbolic_tiles.proofs.Memory.{update_same, update_other}

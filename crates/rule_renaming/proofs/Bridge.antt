@@ -8,7 +8,7 @@ use Rattle.reg_map.specs.Place.{slot_of}
 use Rattle.machines.specs.Memory.{load, Rights}
 use Rattle.machines.specs.Guest.{Guest}
 use Rattle.machines.specs.Host.{Core, Memory, value_at}
-use Rattle.machines.specs.Representation.{in_slot, location_place, IsHomePage, Represents, AreInRange}
+use Rattle.reg_map.specs.Representation.{in_slot, location_place, IsHomePage, Represents, AreInRange}
 use Rattle.symbolic_tiles.specs.Row.{Any, IsCore}
 use Rattle.symbolic_tiles.proofs.Places.{slots_apart, slot_gpr, slot_cached, home_within}
 use Rattle.symbolic_tiles.proofs.Small.{both_true}

@@ -9,7 +9,7 @@ use Rattle.ppc_isa.specs.declared.map.Map.{Map}
 use Rattle.ppc_isa.specs.Legal.{HasOneInstruction, bo_0, bo_2}
 use Rattle.ppc_isa.specs.Locations.{base}
 use Rattle.row_laws.proofs.Lists.{none_in, first_in, later_in, first_or_later}
-use Rattle.row_laws.proofs.Instructions.{Instr, Immediate, LogicImmediate, CompareImmediate, Rotate, Arithmetic, ArithmeticUnary, Logic, ShiftImmediate, LogicUnary, Compare, MoveFromCr, MoveToCr, MoveFromSpr, MoveToSpr, Sync, MoveCrField, CrLogic, Isync, Load, Store, LoadUpdate, StoreUpdate, LoadIndexed, StoreIndexed, LoadIndexedUpdate, StoreIndexedUpdate, BranchConditional, Multiple, TrapImmediate, Branch, SystemCall, Trap, BranchRegister, Addi, Addis, Addic, AddicRecord, Subfic, Mulli, Rlwinm, Rlwnm, Rlwimi}
+use Rattle.ppc_isa.specs.Instruction.{Instr, Immediate, LogicImmediate, CompareImmediate, Rotate, Arithmetic, ArithmeticUnary, Logic, ShiftImmediate, LogicUnary, Compare, MoveFromCr, MoveToCr, MoveFromSpr, MoveToSpr, Sync, MoveCrField, CrLogic, Isync, Load, Store, LoadUpdate, StoreUpdate, LoadIndexed, StoreIndexed, LoadIndexedUpdate, StoreIndexedUpdate, BranchConditional, Multiple, TrapImmediate, Branch, SystemCall, Trap, BranchRegister, Addi, Addis, Addic, AddicRecord, Subfic, Mulli, Rlwinm, Rlwnm, Rlwimi}
 use Rattle.rule_body.specs.declared.goal.Guest.{Guest}
 use Rattle.rule_body.specs.Rows.{is_plain, is_ending}
 use Rattle.rule_body.specs.Numbers.{numbers, AreNumbered, highest}

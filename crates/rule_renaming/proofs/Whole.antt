@@ -11,7 +11,7 @@ use Rattle.ia_codec.specs.declared.op.Condition.{Condition}
 use Rattle.machines.specs.Memory.{Rights}
 use Rattle.machines.specs.Guest.{Guest}
 use Rattle.machines.specs.Host.{Choice, Core}
-use Rattle.machines.specs.Representation.{IsHomePage}
+use Rattle.reg_map.specs.Representation.{IsHomePage}
 use Rattle.symbolic_tiles.specs.Relocated.{op_at}
 use Rattle.symbolic_tiles.specs.Perform.{perform}
 use Rattle.symbolic_tiles.specs.Row.{Window, TilePrecondition, TilePostcondition, GoesThrough, Implements}

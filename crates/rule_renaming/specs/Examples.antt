@@ -3,7 +3,7 @@ use Rattle.std.specs.Prelude.{◌≡◌, true, false, [], ◌∷◌, None}
 use Rattle.std.specs.List.{AllByRecursion}
 use Rattle.ia_codec.specs.declared.op.Operand.TheVariants.{Pair}
 use Rattle.ia_codec.specs.declared.op.Op.TheVariants.{Lea}
-use Rattle.reg_map.specs.Registers.{ebx, esi, edi}
+use Rattle.ia_codec.specs.Registers.{ebx, esi, edi}
 use Rattle.rule_body.specs.declared.goal.Goal.{Goal}
 use Rattle.rule_body.specs.declared.body.Body.{Body}
 use Rattle.rule_body.specs.declared.rule.Rule.{Rule}

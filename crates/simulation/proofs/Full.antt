@@ -7,7 +7,7 @@ use Rattle.runs.specs.Machine.{Anywhere}
 use Rattle.runs.specs.Simulation.{Walks, stays, walks}
 use Rattle.machines.specs.Guest.{Guest}
 use Rattle.machines.specs.Host.{Core, Host, value_at}
-use Rattle.machines.specs.Representation.{location_place, Represents, AreInRange}
+use Rattle.reg_map.specs.Representation.{location_place, Represents, AreInRange}
 use Rattle.symbolic_tiles.specs.Row.{GoesThrough, Any}
 use Rattle.simulation.specs.Context.{SimulationContext, MatchesState, Alike, StepKeepsUnwritten}
 

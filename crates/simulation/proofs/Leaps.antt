@@ -5,7 +5,7 @@ use Rattle.std.proofs.lemmas.Nat.Bits.{and_high_mask}
 use Rattle.ppc_isa.specs.declared.map.Map.{Map}
 use Rattle.ia_codec.specs.declared.op.Condition.TheVariants.{Below, NotBelow}
 use Rattle.ia_codec.specs.Rows.{condition_holds, difference_word, difference_flags}
-use Rattle.reg_map.specs.Registers.{eax, ecx}
+use Rattle.ia_codec.specs.Registers.{eax, ecx}
 use Rattle.reg_map.specs.Home.{home, home_size, location_range}
 use Rattle.reg_map.specs.Place.{slot_of}
 use Rattle.runs.specs.Machine.{Goes, Anywhere}
@@ -14,7 +14,7 @@ use Rattle.runs.proofs.Walking.{join_walks}
 use Rattle.machines.specs.Memory.{update, load, each_byte}
 use Rattle.machines.specs.Guest.{Guest}
 use Rattle.machines.specs.Host.{Choice, Core, Host, Memory, value_at, reads, jumps_to}
-use Rattle.machines.specs.Representation.{in_slot, location_place}
+use Rattle.reg_map.specs.Representation.{in_slot, location_place}
 use Rattle.symbolic_tiles.specs.Row.{IsCore}
 use Rattle.symbolic_tiles.specs.Flow.{leap_target}
 use Rattle.code_layout.specs.Leap.{leap_ops}

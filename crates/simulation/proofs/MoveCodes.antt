@@ -9,7 +9,7 @@ use Rattle.reg_map.specs.declared.moves.Move.{Move}
 use Rattle.reg_map.specs.declared.moves.Move.TheVariants.{Drop, Take}
 use Rattle.reg_map.specs.Moves.{slot_register, moved_gpr, moved, move_op, is_live, MovesOne}
 use Rattle.reg_map.proofs.Moving.{moves_move_one}
-use Rattle.machines.specs.Representation.{IsHomePage}
+use Rattle.reg_map.specs.Representation.{IsHomePage}
 use Rattle.simulation.specs.Context.{SimulationContext}
 use Rattle.simulation.specs.Plan.{IsMove}
 use Rattle.simulation.specs.Moves.{ops_in, MoveCodesMove}

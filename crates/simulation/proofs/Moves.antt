@@ -11,7 +11,7 @@ use Rattle.machines.specs.Memory.{load}
 use Rattle.machines.specs.Guest.{Guest}
 use Rattle.machines.specs.Host.{Choice, Core, Place, Register, Memory, value_at, put_at, reads, puts, bind}
 use Rattle.machines.specs.Host.{goes_to as host_goes_to}
-use Rattle.machines.specs.Representation.{in_slot, location_place, IsHomePage}
+use Rattle.reg_map.specs.Representation.{in_slot, location_place, IsHomePage}
 use Rattle.symbolic_tiles.specs.Perform.{core_behind, perform}
 use Rattle.symbolic_tiles.specs.Row.{GoesThrough, IsCore}
 use Rattle.simulation.specs.Context.{SimulationContext, MatchesState}

@@ -12,7 +12,7 @@ use Rattle.runs.specs.Machine.{Outcome, Goes, Asks, Ends}
 use Rattle.machines.specs.Memory.{Rights, load}
 use Rattle.machines.specs.Guest.{Guest, guest_executes}
 use Rattle.machines.specs.Host.{Core, Host, value_at}
-use Rattle.machines.specs.Representation.{location_place, Represents}
+use Rattle.reg_map.specs.Representation.{location_place, Represents}
 use Rattle.symbolic_tiles.specs.Row.{IsCore}
 
 -- What no step changes: the rights to memory, the home page's address, the bytes that the written file lays out, both

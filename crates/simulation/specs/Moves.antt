@@ -5,7 +5,7 @@ use Rattle.ppc_isa.specs.Map.{IsMap}
 use Rattle.ia_codec.specs.declared.op.Op.{Op}
 use Rattle.reg_map.specs.declared.moves.Move.{Move}
 use Rattle.reg_map.specs.Moves.{IsPossible, moved_gpr, moved, is_live, move_code}
-use Rattle.machines.specs.Representation.{IsHomePage}
+use Rattle.reg_map.specs.Representation.{IsHomePage}
 use Rattle.simulation.specs.Context.{SimulationContext}
 use Rattle.simulation.specs.Plan.{IsMove}
 

@@ -12,7 +12,7 @@ use Rattle.runs.specs.Machine.{Anywhere, run, AgreesFrom}
 use Rattle.runs.specs.Simulation.{IsBounded, Advances, Walks}
 use Rattle.machines.specs.Guest.{Guest}
 use Rattle.machines.specs.Host.{Host}
-use Rattle.machines.specs.Representation.{IsHomePage, HasSegments}
+use Rattle.reg_map.specs.Representation.{IsHomePage, HasSegments}
 use Rattle.symbolic_tiles.specs.Row.{WritesHeld}
 use Rattle.code_layout.specs.Places.{no_registers}
 use Rattle.simulation.specs.Context.{SimulationContext, HasTable, IsOffCode, JumpsTo, MatchesState, StepKeepsUnwritten, LiveIsEnough}

@@ -14,7 +14,7 @@ use Rattle.runs.specs.Machine.{Outcome, Goes}
 use Rattle.machines.specs.Memory.{update, Rights}
 use Rattle.machines.specs.Guest.{Guest, effect_of, guest_acts}
 use Rattle.machines.specs.Host.{Choice, choice_at, Core, Memory, value_at, has_result}
-use Rattle.machines.specs.Representation.{location_place, AreInRange, in_slot}
+use Rattle.reg_map.specs.Representation.{location_place, AreInRange, in_slot}
 use Rattle.symbolic_tiles.specs.Perform.{perform}
 use Rattle.symbolic_tiles.specs.Relocated.{op_at}
 use Rattle.symbolic_tiles.specs.Row.{GoesThrough, TilePostcondition, window_of, loaded, stored, DoesRow, WritesHeld}

@@ -14,7 +14,7 @@ use Rattle.runs.specs.Machine.{Outcome, Goes, Asks, Ends}
 use Rattle.machines.specs.Memory.{update, each_byte, Rights}
 use Rattle.machines.specs.Guest.{Guest, guest_executes}
 use Rattle.machines.specs.Host.{Choice, choice_at, Core}
-use Rattle.machines.specs.Representation.{AreInRange, IsHomePage}
+use Rattle.reg_map.specs.Representation.{AreInRange, IsHomePage}
 use Rattle.symbolic_tiles.specs.Row.{WritesHeld}
 use Rattle.symbolic_tiles.specs.SymbolicOps.{SymbolicOp, AreWellFormed}
 use Rattle.symbolic_tiles.specs.Flow.{Exit, flow, IsBefore, FitsGoing, Fits, FlowDoesWord}

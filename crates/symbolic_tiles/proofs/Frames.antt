@@ -3,7 +3,7 @@ use Rattle.std.proofs.Common.{◌≡◌, ◌≢◌, ℕ, ◌+◌, ◌<◌, ◌�
 use Rattle.ppc_isa.specs.declared.map.Map.{Map}
 use Rattle.reg_map.specs.Home.{home, home_size}
 use Rattle.reg_map.specs.Place.{slot_of}
-use Rattle.machines.specs.Representation.{IsHomePage}
+use Rattle.reg_map.specs.Representation.{IsHomePage}
 use Rattle.machines.specs.Memory.{Rights}
 use Rattle.machines.proofs.Homes.{homes_apart}
 use Rattle.machines.specs.Host.{Core}

@@ -3,7 +3,7 @@ use Rattle.std.proofs.Common.{◌≡◌, ◌≢◌, ℕ, Bool, true, false, ◌&
 use Rattle.space.specs.declared.program.Segment.{Segment}
 use Rattle.machines.specs.Memory.{update, is_within, is_held, is_writable}
 use Rattle.machines.specs.Host.{value_at, put_at}
-use Rattle.machines.specs.Representation.{location_place}
+use Rattle.reg_map.specs.Representation.{location_place}
 use Rattle.symbolic_tiles.specs.Laws.{PlacesAreRead, PlacesAreWritten, ProgramsWriteHeld}
 use Rattle.symbolic_tiles.proofs.Memory.{update_same, update_other}
 use Rattle.symbolic_tiles.proofs.Places.{put_same, put_other, place_apart, place_fits, place_bytes, place_unowned, place_registers, read_place, write_place}

@@ -8,7 +8,7 @@ use Rattle.reg_map.specs.Home.{home, home_size}
 use Rattle.reg_map.specs.Place.{slot_of, holds}
 use Rattle.machines.specs.Memory.{load, each_byte, Rights}
 use Rattle.machines.specs.Host.{Core, Place, Register, Memory, value_at, put_at, reads, puts}
-use Rattle.machines.specs.Representation.{in_slot, location_place, IsHomePage}
+use Rattle.reg_map.specs.Representation.{in_slot, location_place, IsHomePage}
 use Rattle.machines.proofs.Homes.{homes_apart}
 use Rattle.symbolic_tiles.specs.TileItems.{IsFree}
 use Rattle.symbolic_tiles.specs.Row.{IsUnowned}

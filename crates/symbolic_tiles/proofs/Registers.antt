@@ -6,7 +6,7 @@ use Rattle.ia_codec.specs.Rows.{difference_flags}
 use Rattle.reg_map.specs.Home.{location_range}
 use Rattle.symbolic_tiles.specs.SymbolicState.{SymbolicState}
 use Rattle.machines.specs.Guest.{Guest}
-use Rattle.machines.specs.Representation.{AreInRange}
+use Rattle.reg_map.specs.Representation.{AreInRange}
 
 pub word : (x : ℕ) → x < 32 → x < 34
 word x h = omega arith

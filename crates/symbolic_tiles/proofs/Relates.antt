@@ -16,7 +16,7 @@ use Rattle.reg_map.specs.Spelled.{mov_from}
 use Rattle.runs.specs.Machine.{Outcome, Goes, Ends}
 use Rattle.machines.specs.Memory.{update, block, put_block, each_byte, Rights}
 use Rattle.machines.specs.Host.{Choice, choice_at, Core, Host, Memory, value_at, does, host_acts, after_host_call, host_asks, host_system_call, goes_to as host_goes_to}
-use Rattle.machines.specs.Representation.{in_slot, IsHomePage, HasSegments}
+use Rattle.reg_map.specs.Representation.{in_slot, IsHomePage, HasSegments}
 use Rattle.symbolic_tiles.specs.Perform.{is_jump}
 use Rattle.symbolic_tiles.specs.Relocated.{op_at}
 use Rattle.symbolic_tiles.specs.Row.{WritesHeld}

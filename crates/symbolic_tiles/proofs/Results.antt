@@ -14,7 +14,7 @@ use Rattle.runs.specs.Machine.{Goes}
 use Rattle.machines.specs.Memory.{update, Rights}
 use Rattle.machines.specs.Guest.{Guest, effect_of, guest_acts, at_next, results}
 use Rattle.machines.specs.Host.{Choice, choice_at}
-use Rattle.machines.specs.Representation.{AreInRange}
+use Rattle.reg_map.specs.Representation.{AreInRange}
 use Rattle.symbolic_tiles.specs.Row.{DoesRow}
 use Rattle.symbolic_tiles.specs.Tiles.{IsTileOf, room_of}
 use Rattle.symbolic_tiles.specs.SymbolicOps.{SymbolicOp, ops_of, AreWellFormed}

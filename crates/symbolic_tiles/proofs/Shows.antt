@@ -21,7 +21,7 @@ use Rattle.machines.specs.Memory.{update, load, store, each_byte, Rights}
 use Rattle.machines.specs.Host.{Choice, choice_at, Core, Register, Memory, place_of, value_at, put_at, bind, host_values, puts_both, multiplies, has_result, reads, puts, leaves, gives_to, does, Host, plain, host_acts, goes_to as goes_to_next}
 use Rattle.space.specs.declared.call.End.TheVariants.{DivideFault}
 use Rattle.runs.specs.Machine.{Outcome, Ends}
-use Rattle.machines.specs.Representation.{in_slot, location_place, IsHomePage}
+use Rattle.reg_map.specs.Representation.{in_slot, location_place, IsHomePage}
 use Rattle.symbolic_tiles.specs.Perform.{is_jump, core_behind, perform}
 use Rattle.symbolic_tiles.specs.Relocated.{operand_at, op_at}
 use Rattle.symbolic_tiles.specs.Row.{GoesThrough, IsUnowned, IsCore}

@@ -5,7 +5,7 @@ use Rattle.space.specs.declared.call.End.TheVariants.{Outside}
 use Rattle.runs.specs.Machine.{Goes, Ends}
 use Rattle.ppc_isa.specs.Effect.{GuestValues, Access, NoAccess, LoadAccess, StoreAccess}
 use Rattle.ppc_isa.specs.Rows.{immediate_row, arithmetic_row, arithmetic_unary_row, logic_row, logic_unary_row, compare_immediate_row, compare_row, load_row, load_update_row, load_indexed_row, load_indexed_update_row, store_row, store_update_row, store_indexed_row, store_indexed_update_row}
-use Rattle.row_laws.proofs.Instructions.{Instr, Immediate, LogicImmediate, Load, Store, LoadUpdate, StoreUpdate, Multiple, TrapImmediate, CompareImmediate, Rotate, Branch, BranchConditional, SystemCall, Arithmetic, ArithmeticUnary, Logic, ShiftImmediate, LogicUnary, Compare, Trap, MoveFromCr, MoveToCr, MoveFromSpr, MoveToSpr, Sync, LoadIndexed, StoreIndexed, LoadIndexedUpdate, StoreIndexedUpdate, MoveCrField, CrLogic, Isync, BranchRegister, Lmw, Stmw}
+use Rattle.ppc_isa.specs.Instruction.{Instr, Immediate, LogicImmediate, Load, Store, LoadUpdate, StoreUpdate, Multiple, TrapImmediate, CompareImmediate, Rotate, Branch, BranchConditional, SystemCall, Arithmetic, ArithmeticUnary, Logic, ShiftImmediate, LogicUnary, Compare, Trap, MoveFromCr, MoveToCr, MoveFromSpr, MoveToSpr, Sync, LoadIndexed, StoreIndexed, LoadIndexedUpdate, StoreIndexedUpdate, MoveCrField, CrLogic, Isync, BranchRegister, Lmw, Stmw}
 use Rattle.row_laws.proofs.Instructions as word
 use Rattle.row_laws.proofs.Lists.{none_in, first_or_later}
 use Rattle.machines.specs.Memory.{each_byte, Rights}

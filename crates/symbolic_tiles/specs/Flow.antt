@@ -14,7 +14,7 @@ use Rattle.runs.specs.Machine.{Outcome, Goes, Asks, Ends}
 use Rattle.machines.specs.Memory.{Rights}
 use Rattle.machines.specs.Guest.{Guest, guest_executes}
 use Rattle.machines.specs.Host.{Choice, Core, Host}
-use Rattle.machines.specs.Representation.{IsHomePage, HasSegments, Represents, AreInRange}
+use Rattle.reg_map.specs.Representation.{IsHomePage, HasSegments, Represents, AreInRange}
 use Rattle.symbolic_tiles.specs.Perform.{is_jump, op_outcome}
 use Rattle.symbolic_tiles.specs.Relocated.{op_at}
 use Rattle.symbolic_tiles.specs.Row.{Any, IsUnowned, WritesHeld, IsCore}

@@ -7,7 +7,7 @@ use Rattle.space.specs.declared.program.Program.{Program}
 use Rattle.machines.specs.Memory.{update, Rights, rights_of}
 use Rattle.machines.specs.Guest.{Guest}
 use Rattle.machines.specs.Host.{Core, Host, reads, puts, host_acts}
-use Rattle.machines.specs.Representation.{location_place, IsHomePage, Represents}
+use Rattle.reg_map.specs.Representation.{location_place, IsHomePage, Represents}
 use Rattle.ia_codec.specs.declared.op.Op.{Op}
 use Rattle.symbolic_tiles.specs.Perform.{is_jump, op_outcome, then_at}
 use Rattle.symbolic_tiles.specs.Row.{IsUnowned, WritesHeld, Window, TilePrecondition, TilePostcondition}

@@ -10,12 +10,12 @@ use Rattle.ia_codec.specs.declared.op.Condition.{Condition}
 use Rattle.ia_codec.specs.Rows.{condition_holds}
 use Rattle.reg_map.specs.Home.{home, home_size, location_count, location_range}
 use Rattle.reg_map.specs.Place.{slot_of}
-use Rattle.reg_map.specs.Registers.{eax, ecx, edx}
+use Rattle.ia_codec.specs.Registers.{eax, ecx, edx}
 use Rattle.runs.specs.Machine.{Outcome, Goes}
 use Rattle.machines.specs.Memory.{Rights}
 use Rattle.machines.specs.Guest.{Guest, effect_of, guest_acts}
 use Rattle.machines.specs.Host.{Choice, Core, value_at}
-use Rattle.machines.specs.Representation.{location_place, IsHomePage, Represents, AreInRange}
+use Rattle.reg_map.specs.Representation.{location_place, IsHomePage, Represents, AreInRange}
 use Rattle.symbolic_tiles.specs.Perform.{perform}
 use Rattle.symbolic_tiles.specs.Relocated.{op_at}
 

@@ -6,7 +6,7 @@ use Rattle.ia_codec.specs.declared.op.Op.TheVariants.{Int80, Int3, Ud2}
 use Rattle.ia_codec.specs.declared.op.Condition.{Condition}
 use Rattle.ia_codec.specs.declared.op.Condition.TheVariants.{Below, NotBelow, Equal, NotEqual, NotAbove, Above, Sign, NotSign, Less, NotLess, NotGreater, Greater}
 use Rattle.reg_map.specs.Place.{place, slot_of}
-use Rattle.reg_map.specs.Registers.{ebx}
+use Rattle.ia_codec.specs.Registers.{ebx}
 use Rattle.reg_map.specs.Spelled.{mov_from}
 use Rattle.symbolic_tiles.specs.SymbolicOps.{SymbolicOp, op_of, IsWellFormed}
 use Rattle.symbolic_tiles.specs.declared.flow_op.FlowOp.{FlowOp}

@@ -4,7 +4,7 @@ use Rattle.space.specs.declared.program.Kind.TheVariants.{PowerPc}
 use Rattle.space.specs.declared.program.Program.{Program}
 use Rattle.elf_load.specs.Faults.{IsProgramOf, IsFirstFault}
 use Rattle.elf_load.specs.declared.refusal.ElfRefusal.{ElfRefusal}
-use Rattle.machines.specs.Files.{Agrees}
+use Rattle.agreement.specs.Files.{Agrees}
 use Rattle.agreement.specs.Written.{Carries}
 use Rattle.translate_core.specs.declared.translation.Output.{Output}
 use Rattle.trans_tool.specs.Whole.{IsLonger}

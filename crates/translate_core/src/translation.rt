@@ -3,7 +3,7 @@
 ghost use Rattle.std.specs.Prelude.{◌≡◌, ◌<◌, ℕ, List, IfOk, All};
 ghost use Rattle.space.specs.declared.program.Kind.TheVariants.{PowerPc};
 ghost use Rattle.elf_load.specs.Faults.{IsProgramOf};
-ghost use Rattle.machines.specs.Files.{Agrees};
+ghost use Rattle.agreement.specs.Files.{Agrees};
 ghost use Rattle.agreement.specs.Written.{Carries};
 
 use agreement::carrying_agrees;

@@ -9,7 +9,7 @@ use Rattle.space.specs.declared.program.Segment.{Segment}
 use Rattle.elf_load.specs.Area.{IsArea}
 use Rattle.machines.specs.Memory.{Rights, Code, code_in, is_code, is_held, is_writable, is_within, rights_of, code_of, first_bytes}
 use Rattle.machines.specs.Agreement.{without}
-use Rattle.machines.specs.Representation.{IsHomePage, HasSegments}
+use Rattle.reg_map.specs.Representation.{IsHomePage, HasSegments}
 use Rattle.machines.proofs.Tests.{both}
 use Rattle.symbolic_tiles.proofs.PlaceLaws.{programs_write_held}
 use Rattle.elf_emit.specs.Translation.{home_page}

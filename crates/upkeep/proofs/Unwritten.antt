@@ -12,7 +12,7 @@ use Rattle.ia_codec.specs.declared.op.Operand.{Operand}
 use Rattle.ia_codec.specs.declared.op.Operand.TheVariants.{Reg}
 use Rattle.ia_codec.specs.Effect.{HostEffect}
 use Rattle.ia_codec.specs.Rows.{host_row}
-use Rattle.reg_map.specs.Registers.{eax, ecx, edx, ebx}
+use Rattle.ia_codec.specs.Registers.{eax, ecx, edx, ebx}
 use Rattle.machines.specs.Memory.{update, store, block, put_block, each_byte, Rights, is_code}
 use Rattle.machines.specs.Readings.{Fetched}
 use Rattle.machines.specs.Host.{Choice, Core, Host, Place, Register, Memory, place_of, choice_at, has_result, extend_size, address_in, byte_for, puts_both, bind, host_values, reads, puts, put_at, leaves, gives_to, changes, sets, sets_byte, multiplies, unary_does, does, goes_to, plain, jumps, jumps_to, faults_on, divides, unary_acts, after_host_call, host_asks, host_system_call, host_acts, host_executes, op_bytes}

@@ -7,7 +7,7 @@ use Rattle.machines.specs.Memory.{Rights, Code, rights_of, code_of, first_bytes}
 use Rattle.machines.specs.Guest.{guest_start}
 use Rattle.machines.specs.Host.{Choice, host_start}
 use Rattle.machines.specs.Agreement.{without}
-use Rattle.machines.specs.Representation.{IsHomePage, HasSegments}
+use Rattle.reg_map.specs.Representation.{IsHomePage, HasSegments}
 use Rattle.symbolic_tiles.specs.Row.{WritesHeld}
 use Rattle.elf_emit.specs.Translation.{home_page}
 use Rattle.simulation.specs.Context.{SimulationContext}

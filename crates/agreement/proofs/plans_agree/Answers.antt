@@ -53,4 +53,4 @@ returns c = λ interface P Q x.
     } in
     let start = c.starts.ensures.start P Q x.area table x.code s choices x.is_area x.written x.bytes (record { guest = refl; area_is = refl; image = refl; entry = x.start }) in
     c.agrees.ensures s holds (guest_start P) (host_start Q choices) start in
-    (c.agrees_if_narrowly.ensures.programs P Q narrowly, λ file loaded. c.agrees_if_narrowly.ensures.files P Q file loaded narrowly)
+    (let agrees = c.agrees_if_narrowly.ensures P Q narrowly in (agrees, λ file loaded. (Q, loaded, agrees)))
