@@ -1,17 +1,14 @@
 -- What keeps the bytes of a run, and how a byte that is put changes them.
 use Rattle.std.proofs.Common.{◌≡◌, ◌≢◌, ℕ, ◌-◌, ◌+◌, ◌%◌, ◌^◌, Bool, true, false, cond, eqb, ◌||◌, ◌&&◌, Option, Some, None, List, [], ◌∷◌, length, get_or, refl, sym, ◌∙◌, ap, inl, inr, arith}
 use Rattle.std.specs.Prelude.{slice_get, slice_index, ◌↔◌, IsTrue, EachIndex, Result, Ok, Err, IfOk}
-use Rattle.word_kit.specs.declared.NoMemory.{NoMemory}
+use Rattle.machines.specs.Prelude.{NoMemory, Segment, Program, has_address, permits, is_permitted, ArePermitted, put_byte, with_byte, update, is_held, is_writable, first_bytes, each_byte, block}
 use Rattle.std.specs.List.{list_any}
 use Rattle.std.proofs.lemmas.Bool.{cases_eq, false_from_ne_true}
 use Rattle.std.proofs.lemmas.Bool.Decides.{nat_tests}
 use Rattle.std.proofs.lemmas.Option.{slice_get-get_or, slice_get-map}
-use Rattle.space.specs.declared.program.Segment.{Segment}
-use Rattle.space.specs.declared.program.Program.{Program}
-use Rattle.space.specs.Memory.{Memory, AreApart, has_address, permits, is_permitted, ArePermitted, put_byte, byte_at, with_byte}
+use Rattle.space.specs.Memory.{Memory, AreApart, byte_at}
 use Rattle.space.proofs.Changes.{byte_in, byte_stands, bytes_stay, same_rights, code_is_kept}
 use Rattle.space.proofs.Written.{still_apart}
-use Rattle.machines.specs.Memory.{update, is_held, is_writable, first_bytes, each_byte, block}
 use Rattle.access.specs.Kept.{Keeps, HasClosedCode, is_allowed}
 use Rattle.access.proofs.Bytes.{each_at, each_of, is_block}
 

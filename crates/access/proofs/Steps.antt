@@ -4,9 +4,8 @@ use Rattle.std.proofs.Math.Nat.{pow-suc, mod-eq_of_lt, pow-le-pow_right, div-div
 use Rattle.std.specs.Bool.{OnTrue}
 use Rattle.std.proofs.lemmas.Bool.{OnTrue_at}
 use Rattle.std.specs.Prelude.{if◌then◌else◌}
-use Rattle.space.specs.declared.program.Program.{Program}
-use Rattle.space.specs.Memory.{Memory, is_permitted, byte_at, with_byte}
-use Rattle.machines.specs.Memory.{update, load, store, load_big, store_big, put_block, each_byte}
+use Rattle.machines.specs.Prelude.{Program, is_permitted, with_byte, update, load, store, load_big, store_big, put_block, each_byte}
+use Rattle.space.specs.Memory.{Memory, byte_at}
 use Rattle.access.specs.Kept.{Keeps, is_allowed}
 use Rattle.access.proofs.Bytes.{each_at, each_fails, each_next, each_first, load_big_next, load_first, store_big_next, store_next, put_block_next}
 use Rattle.access.proofs.Kept.{read_held, read_byte, read_none, keeps_byte}

@@ -1,9 +1,7 @@
 -- Memory as the definitions of the machines have it, and memory as it is kept: a program's segments with the bytes that stand in them. This project's own.
 use Rattle.std.specs.Prelude.{◌≡◌, ℕ, Bool, true, false, Some, slice_get}
-use Rattle.space.specs.declared.program.Segment.{Segment}
-use Rattle.space.specs.declared.program.Program.{Program}
-use Rattle.space.specs.Memory.{Memory, AreApart, is_permitted, byte_at}
-use Rattle.machines.specs.Memory.{is_held, is_writable}
+use Rattle.machines.specs.Prelude.{Segment, Program, is_permitted, is_held, is_writable}
+use Rattle.space.specs.Memory.{Memory, AreApart, byte_at}
 
 -- the code of the program may not be written
 abbrev pub HasClosedCode : Program → Type 0

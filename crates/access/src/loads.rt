@@ -1,7 +1,6 @@
 //! Numbers of some bytes that are read from memory, in both orders of bytes.
 ghost use Rattle.std.specs.Prelude.{◌≡◌, ◌≤◌, ℕ, false, Some, None, if◌then◌else◌};
-ghost use Rattle.space.specs.declared.program.Program.{Program};
-ghost use Rattle.machines.specs.Memory.{each_byte, load_big as big_number, load as little_number};
+ghost use Rattle.machines.specs.Prelude.{Program, each_byte, load_big as big_number, load as little_number};
 ghost use Rattle.access.specs.Kept.{Keeps, is_allowed};
 
 use space::Space;

@@ -1,8 +1,7 @@
 //! Memory before the first step, its rights, and the bytes of a buffer.
 ghost use Rattle.std.specs.Prelude.{◌≡◌, ℕ, false, IfOk, length};
-ghost use Rattle.space.specs.declared.program.Program.{Program as OfProgram};
-ghost use Rattle.space.specs.Memory.{AreApart, ArePermitted};
-ghost use Rattle.machines.specs.Memory.{each_byte, block, first_bytes};
+ghost use Rattle.machines.specs.Prelude.{Program as OfProgram, ArePermitted, each_byte, block, first_bytes};
+ghost use Rattle.space.specs.Memory.{AreApart};
 ghost use Rattle.access.specs.Kept.{Keeps, HasClosedCode, is_allowed};
 
 use space::{Program, Space};

@@ -1,9 +1,7 @@
 //! Numbers and bytes that are written to memory. What may not be written whole isn't written at all.
 ghost use Rattle.std.specs.Prelude.{◌≡◌, ◌≤◌, ℕ, true, length};
 ghost use Rattle.std.specs.Bool.{OnTrue, OnFalse};
-ghost use Rattle.space.specs.declared.program.Program.{Program};
-ghost use Rattle.space.specs.Memory.{ArePermitted};
-ghost use Rattle.machines.specs.Memory.{each_byte, put_block, store_big as big_stored, store as little_stored};
+ghost use Rattle.machines.specs.Prelude.{Program, ArePermitted, each_byte, put_block, store_big as big_stored, store as little_stored};
 ghost use Rattle.access.specs.Kept.{Keeps, is_allowed};
 
 use crate::holds;

@@ -3,7 +3,7 @@ use Rattle.std.proofs.Common.{◌≡◌, ℕ, ◌+◌, ◌<◌, ◌≤◌, Bool,
 use Rattle.std.proofs.lemmas.List.{get_or_append_left}
 use Rattle.std.proofs.Math.Seq.{get_or-append_seam}
 use Rattle.std.proofs.Math.Decide.{dec_lt}
-use Rattle.circuit.specs.Literals.{word_reach_below}
+use Rattle.circuit.specs.Prelude.{word_reach_below}
 use Rattle.access_circuits.specs.Lists.{no_access, no_words, IsAccess, AreAccesses, AccessesOwned}
 use Rattle.row_runs.specs.Accesses.{Accessed}
 use Rattle.access_circuits.specs.declared.accesses.AccessWords.{AccessWords}

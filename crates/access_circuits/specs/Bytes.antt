@@ -1,6 +1,6 @@
 -- Bytes as words of gates.
 use Rattle.std.specs.Prelude.{◌≡◌, ◌<◌, ◌≤◌, ℕ, Bool, List, [], slice_index_or}
-use Rattle.circuit.specs.Literals.{word_value, word_reach_below}
+use Rattle.circuit.specs.Prelude.{word_value, word_reach_below}
 use Rattle.circuit.specs.declared.literals.Lit.{Lit}
 
 -- the four words mean these bytes under an assignment

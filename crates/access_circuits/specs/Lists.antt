@@ -1,6 +1,6 @@
 -- Accesses over gates, and the accesses that they mean.
 use Rattle.std.specs.Prelude.{◌≡◌, ◌<◌, ◌≤◌, ℕ, Bool, false, List, [], length, get_or}
-use Rattle.circuit.specs.Literals.{word_value, word_reach_below}
+use Rattle.circuit.specs.Prelude.{word_value, word_reach_below}
 use Rattle.row_runs.specs.Accesses.{Accessed}
 use Rattle.access_circuits.specs.declared.accesses.AccessWords.{AccessWords}
 

@@ -1,8 +1,7 @@
 //! Lists of accesses.
 
 ghost use Rattle.std.specs.Prelude.{◌≡◌, ◌↔◌, ◌≤◌, ◌++◌, ◌∷◌, [], List, ℕ, Bool, IsTrue, IfOk, OnOk};
-ghost use Rattle.circuit.specs.Literals.{word_reach_below};
-ghost use Rattle.circuit.specs.Miters.{AreOwned};
+ghost use Rattle.circuit.specs.Prelude.{word_reach_below, AreOwned};
 ghost use Rattle.chosen_inputs.specs.Pairs.{AreAlike};
 ghost use Rattle.row_runs.specs.Accesses.{Accessed};
 ghost use Rattle.access_circuits.specs.Lists.{IsAccess, AreAccesses, AccessesOwned, HaveSameShapes};

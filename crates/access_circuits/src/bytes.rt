@@ -1,9 +1,8 @@
 //! Bytes as words.
 
 ghost use Rattle.std.specs.Prelude.{◌≡◌, ◌≤◌, ◌<◌, ◌^◌, ℕ, Bool, IfOk, length};
-ghost use Rattle.word_kit.specs.Bits.{byte_of};
-ghost use Rattle.circuit.specs.Literals.{word_value, word_reach_below};
-ghost use Rattle.circuit.specs.Frame.{IsLater};
+ghost use Rattle.word_kit.specs.Prelude.{byte_of};
+ghost use Rattle.circuit.specs.Prelude.{word_value, word_reach_below, IsLater};
 ghost use Rattle.chosen_inputs.specs.Choices.{CanChoose};
 ghost use Rattle.row_runs.specs.Accesses.{big_number, little_number};
 ghost use Rattle.access_circuits.specs.Bytes.{HoldsBytes, BytesOwned};

@@ -2,20 +2,13 @@
 use Rattle.std.specs.Prelude.{◌≡◌, ℕ, List, length, Option}
 use Rattle.std.specs.List.{flat_map}
 use Rattle.byteorder.specs.Endian.{little_bytes}
-use Rattle.space.specs.declared.program.Kind.TheVariants.{Ia32}
-use Rattle.space.specs.declared.program.Program.{Program}
-use Rattle.ppc_isa.specs.declared.instr.Instr.{Instr}
-use Rattle.elf_load.specs.Area.{IsArea}
-use Rattle.elf_load.specs.Faults.{IsProgramOf}
-use Rattle.machines.specs.Agreement.{AgreesWith}
+use Rattle.machines.specs.Prelude.{Ia32, Program, Instr, AgreesWith, Fetched, ReadsWords, ReadsOps}
+use Rattle.elf_load.specs.Prelude.{IsArea, IsProgramOf}
 use Rattle.agreement.specs.Files.{Agrees}
-use Rattle.machines.specs.Readings.{Fetched, ReadsWords, ReadsOps}
-use Rattle.code_layout.specs.Places.{entry_of}
+use Rattle.code_layout.specs.Prelude.{entry_of}
 use Rattle.code_words.specs.Words.{HasWords, first_of}
-use Rattle.simulation.specs.Context.{SimulationContext, JumpsTo, LiveIsEnough}
-use Rattle.simulation.specs.Plan.{DoorAt}
-use Rattle.laid_code.specs.Instance.{code_start, Interface, context_of}
-use Rattle.laid_code.specs.Laws.{AreAddresses, IsBlockOrOff}
+use Rattle.simulation.specs.Prelude.{SimulationContext, JumpsTo, LiveIsEnough, DoorAt}
+use Rattle.laid_code.specs.Prelude.{code_start, Interface, context_of, AreAddresses, IsBlockOrOff}
 use Rattle.upkeep.specs.Loaded.{HaveBytes}
 use Rattle.upkeep.specs.Written.{IsWritten}
 

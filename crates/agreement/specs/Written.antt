@@ -1,15 +1,12 @@
 -- What a file carries that is written for a program. This project's own.
 use Rattle.std.specs.Prelude.{◌≡◌, ℕ, true, List}
-use Rattle.space.specs.declared.program.Kind.TheVariants.{Ia32}
-use Rattle.space.specs.declared.program.Program.{Program}
+use Rattle.machines.specs.Prelude.{Ia32, Program}
 use Rattle.branch_table.specs.declared.code.Code.{Code}
-use Rattle.elf_load.specs.Area.{IsHostArea}
-use Rattle.elf_load.specs.Faults.{IsProgramOf}
-use Rattle.elf_emit.specs.File.{elf_file}
-use Rattle.elf_emit.specs.Translation.{FitsArea, file_segments, translated}
+use Rattle.elf_load.specs.Prelude.{IsHostArea, IsProgramOf}
+use Rattle.elf_emit.specs.Prelude.{elf_file, FitsArea, file_segments, translated}
 use Rattle.agreement.specs.Files.{Agrees}
-use Rattle.code_layout.specs.Layout.{IsLaidFor}
-use Rattle.laid_code.specs.Instance.{Interface, without_registers}
+use Rattle.code_layout.specs.Prelude.{IsLaidFor}
+use Rattle.laid_code.specs.Prelude.{Interface, without_registers}
 use Rattle.upkeep.specs.Loaded.{AreBytes}
 use Rattle.agreement.specs.Plans.{CarriesPlans}
 

@@ -5,28 +5,15 @@ use Rattle.std.proofs.Math.Nat.{div-le_self, div-eq_of_lt}
 use Rattle.std.proofs.lemmas.Nat.{le_or_l, le_or_r}
 use Rattle.std.proofs.lemmas.Bool.{eqb-true}
 use Rattle.std.proofs.lemmas.Bool.Decides.{nat_tests}
-use Rattle.word_kit.specs.Words.{one_if, complement, signed, signed_in, two_complement, sum_word, sum_carries}
-use Rattle.word_kit.specs.Bits.{shifted_arith}
-use Rattle.word_kit.specs.Products.{two_words, fits_word, signed_quotient, divide_faults, quotient}
-use Rattle.ppc_isa.specs.declared.instr.Instr.{Instr}
-use Rattle.ppc_isa.specs.declared.instr.Instr.TheVariants.{Arithmetic, ArithmeticUnary}
-use Rattle.ppc_isa.specs.declared.instr.ArithmeticOp.{ArithmeticOp}
+use Rattle.machines.specs.Prelude.{one_if, complement, signed, signed_in, two_complement, sum_word, sum_carries, shifted_arith, two_words, fits_word, signed_quotient, divide_faults, quotient, Instr, Arithmetic, ArithmeticUnary, ArithmeticOp, ArithmeticUnaryOp, IsLegal, quotient_signed, quotient_unsigned, sign_copies, update, Guest}
 use Rattle.ppc_isa.specs.declared.instr.ArithmeticOp.TheVariants as arithmetic
-use Rattle.ppc_isa.specs.declared.instr.ArithmeticUnaryOp.{ArithmeticUnaryOp}
 use Rattle.ppc_isa.specs.declared.instr.ArithmeticUnaryOp.TheVariants as unary
-use Rattle.ppc_isa.specs.Legal.{IsLegal}
 use Rattle.ppc_isa.specs.Recording.{ca}
-use Rattle.ppc_isa.specs.ProductRows.{quotient_signed, quotient_unsigned}
-use Rattle.ia_codec.specs.Products.{sign_copies}
-use Rattle.machines.specs.Memory.{update}
-use Rattle.machines.specs.Guest.{Guest}
-use Rattle.reg_map.specs.Representation.{AreInRange}
-use Rattle.symbolic_tiles.specs.Tiles.{IsTileOf}
-use Rattle.symbolic_tiles.specs.Recording.{record_ops}
+use Rattle.reg_map.specs.Prelude.{AreInRange}
+use Rattle.symbolic_tiles.specs.Prelude.{IsTileOf, record_ops, SymbolicState, then_ops}
 use Rattle.base_alu.proofs.Families.{arithmetic_do, unary_do}
 use Rattle.base_alu.specs.Arithmetic.{arithmetic_ops, unary_ops}
 use Rattle.row_laws.proofs.Changes.{values_in}
-use Rattle.symbolic_tiles.specs.SymbolicState.{SymbolicState, then_ops}
 use Rattle.symbolic_tiles.proofs.Products.{high_word, parts_words}
 use Rattle.symbolic_tiles.proofs.Rooms.{product_word}
 use Rattle.ppc_sums.proofs.Quotients.{unsigned_is, signed_is, wide_is, fits_is}

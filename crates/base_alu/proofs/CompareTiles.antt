@@ -1,30 +1,13 @@
 -- Tiles of compares.
 use Rattle.std.proofs.Common.{◌≡◌, ℕ, ◌+◌, ◌^◌, ◌<◌, ◌≤◌, Bool, true, false, eqb, List, ◌++◌, refl, sym, ap, ◌∙◌, subst, arith}
-use Rattle.word_kit.specs.Words.{is_less, sign_extended}
-use Rattle.ppc_isa.specs.declared.instr.Instr.{Instr}
-use Rattle.ppc_isa.specs.declared.instr.Instr.TheVariants.{CompareImmediate, Compare}
-use Rattle.ppc_isa.specs.declared.instr.CompareImmediateOp.TheVariants.{Cmpi, Cmpli}
-use Rattle.ppc_isa.specs.declared.instr.CompareOp.TheVariants.{Cmp, Cmpl}
-use Rattle.ppc_isa.specs.Legal.{IsLegal}
-use Rattle.ppc_isa.specs.Recording.{so, with_field}
-use Rattle.ia_codec.specs.declared.op.Condition.{Condition}
-use Rattle.ia_codec.specs.declared.op.Condition.TheVariants.{Below, Less}
-use Rattle.ia_codec.specs.Effect.{Flags}
-use Rattle.ia_codec.specs.Rows.{difference_flags, condition_holds}
-use Rattle.reg_map.specs.Home.{location_range}
-use Rattle.runs.specs.Machine.{Goes}
-use Rattle.machines.specs.Memory.{update, Rights}
-use Rattle.machines.specs.Guest.{Guest, effect_of, guest_acts, at_next, put_cr, cr_word}
-use Rattle.machines.specs.Host.{Choice}
-use Rattle.reg_map.specs.Representation.{AreInRange}
-use Rattle.symbolic_tiles.specs.Tiles.{IsTileOf, room_of}
+use Rattle.machines.specs.Prelude.{is_less, sign_extended, Instr, CompareImmediate, Compare, Cmpi, Cmpli, Cmp, Cmpl, IsLegal, with_field, Condition, Below, Less, Flags, difference_flags, condition_holds, Goes, update, Rights, Guest, effect_of, guest_acts, at_next, put_cr, cr_word, Choice}
+use Rattle.ppc_isa.specs.Recording.{so}
+use Rattle.reg_map.specs.Prelude.{location_range, AreInRange}
+use Rattle.symbolic_tiles.specs.Prelude.{IsTileOf, room_of, AreWellFormed, field_ops, execute_ops}
 use Rattle.symbolic_tiles.specs.declared.symbolic_op.SymbolicOp.{SymbolicOp}
-use Rattle.symbolic_tiles.specs.SymbolicOps.{AreWellFormed}
-use Rattle.symbolic_tiles.specs.Recording.{field_ops}
 use Rattle.base_alu.specs.Compares.{cmpi_ops, cmpli_ops, cmp_ops}
 use Rattle.row_laws.proofs.Fields.{four_bits}
 use Rattle.row_laws.proofs.Changes.{values_in}
-use Rattle.symbolic_tiles.specs.SymbolicState.{execute_ops}
 use Rattle.symbolic_tiles.proofs.Done.{state_of, IsStateOf}
 use Rattle.symbolic_tiles.proofs.TileOf.{ops_are_tile}
 use Rattle.symbolic_tiles.proofs.Signed.{field_byte, zero_test, less_by_flags, below_by_flags, field_of_compare}

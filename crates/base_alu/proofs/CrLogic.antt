@@ -1,29 +1,15 @@
 -- Tiles of CR logic.
 use Rattle.std.proofs.Common.{◌≡◌, ◌≢◌, ℕ, ◌+◌, ◌-◌, ◌*◌, ◌/◌, ◌%◌, ◌^◌, ◌<◌, ◌≤◌, ◌⊎◌, inl, inr, Bool, true, false, not, ◌&&◌, ◌||◌, eqb, List, ◌++◌, bit_and, bit_or, bit_xor, refl, sym, ap, ◌∙◌, subst, arith}
 use Rattle.std.proofs.Math.Nat.{div-le_self}
-use Rattle.word_kit.specs.Words.{one_if, same, complement}
-use Rattle.word_kit.specs.Bits.{bit_of, with_bit}
-use Rattle.ppc_isa.specs.declared.instr.Instr.{Instr}
-use Rattle.ppc_isa.specs.declared.instr.Instr.TheVariants.{CrLogic}
-use Rattle.ppc_isa.specs.declared.instr.CrLogicOp.{CrLogicOp}
-use Rattle.ppc_isa.specs.declared.instr.CrLogicOp.TheVariants.{Crand, Cror, Crxor, Crnand, Crnor, Creqv, Crandc, Crorc}
-use Rattle.ppc_isa.specs.Legal.{IsLegal}
-use Rattle.ppc_isa.specs.Recording.{place}
-use Rattle.ppc_isa.specs.FieldRows.{cr_bit, cr_logic}
-use Rattle.reg_map.specs.Home.{location_range}
-use Rattle.machines.specs.Memory.{update, Rights}
-use Rattle.machines.specs.Guest.{Guest, at_next, put_cr, cr_word}
-use Rattle.machines.specs.Host.{Choice}
-use Rattle.reg_map.specs.Representation.{AreInRange}
-use Rattle.symbolic_tiles.specs.Tiles.{IsTileOf, room_of}
-use Rattle.symbolic_tiles.specs.SymbolicOps.{IsTemporary, AreWellFormed}
+use Rattle.machines.specs.Prelude.{one_if, same, complement, bit_of, with_bit, Instr, CrLogic, CrLogicOp, Crand, Cror, Crxor, Crnand, Crnor, Creqv, Crandc, Crorc, IsLegal, place, cr_bit, cr_logic, update, Rights, Guest, at_next, put_cr, cr_word, Choice}
+use Rattle.reg_map.specs.Prelude.{location_range, AreInRange}
+use Rattle.symbolic_tiles.specs.Prelude.{IsTileOf, room_of, IsTemporary, AreWellFormed, SymbolicState, execute_ops}
 use Rattle.base_alu.specs.Conditions.{get_bit, cr_operation, set_bit, cr_ops}
 use Rattle.symbolic_tiles.proofs.Memory.{update_same, update_other}
 use Rattle.row_laws.proofs.Digits.{digit, bit_in_digit, with_bit_own}
 use Rattle.row_laws.proofs.Fields.{field_of_word, put_cr_at}
 use Rattle.row_laws.proofs.Kept.{bit_alone}
 use Rattle.row_laws.proofs.Changes.{values_in}
-use Rattle.symbolic_tiles.specs.SymbolicState.{SymbolicState, execute_ops}
 use Rattle.symbolic_tiles.proofs.Done.{state_of, IsStateOf}
 use Rattle.symbolic_tiles.proofs.TileOf.{ops_are_tile}
 use Rattle.symbolic_tiles.proofs.Written.{fields_put_cr}

@@ -1,22 +1,10 @@
 -- Tiles that give one result, by the form of the instruction.
 use Rattle.std.proofs.Common.{ℕ, ◌≤◌, Bool, false, List, ◌++◌, refl}
-use Rattle.ppc_isa.specs.declared.instr.Instr.TheVariants.{Immediate, LogicImmediate, Arithmetic, ArithmeticUnary, Logic}
-use Rattle.ppc_isa.specs.declared.instr.ImmediateOp.{ImmediateOp}
-use Rattle.ppc_isa.specs.declared.instr.LogicImmediateOp.{LogicImmediateOp}
-use Rattle.ppc_isa.specs.declared.instr.ArithmeticOp.{ArithmeticOp}
-use Rattle.ppc_isa.specs.declared.instr.ArithmeticUnaryOp.{ArithmeticUnaryOp}
-use Rattle.ppc_isa.specs.declared.instr.LogicOp.{LogicOp}
-use Rattle.ppc_isa.specs.Legal.{IsLegal}
-use Rattle.ppc_isa.specs.Locations.{immediate_carries, immediate_records, logic_immediate_records, carry_out, unary_carry, logic_carries}
-use Rattle.ppc_isa.specs.LogicRows.{logic_immediate}
-use Rattle.ppc_isa.specs.Rows.{immediate_row, arithmetic_row, arithmetic_unary_row, logic_row}
-use Rattle.machines.specs.Guest.{logic_word}
+use Rattle.machines.specs.Prelude.{Immediate, LogicImmediate, Arithmetic, ArithmeticUnary, Logic, ImmediateOp, LogicImmediateOp, ArithmeticOp, ArithmeticUnaryOp, LogicOp, IsLegal, immediate_carries, immediate_records, logic_immediate_records, carry_out, unary_carry, logic_carries, logic_immediate, immediate_row, arithmetic_row, arithmetic_unary_row, logic_row, logic_word}
 use Rattle.row_laws.proofs.Changes.{values_in}
 use Rattle.row_laws.proofs.Shapes.{immediate_carry, immediate_gives, gives_in_a, arithmetic_carry, arithmetic_gives, arithmetic_unary_carry, arithmetic_unary_gives, logic_carry, logic_gives}
 use Rattle.symbolic_tiles.specs.declared.symbolic_op.SymbolicOp.{SymbolicOp}
-use Rattle.symbolic_tiles.specs.SymbolicOps.{AreWellFormed}
-use Rattle.symbolic_tiles.specs.Recording.{record_ops}
-use Rattle.symbolic_tiles.specs.Tiles.{IsTileOf, room_of}
+use Rattle.symbolic_tiles.specs.Prelude.{AreWellFormed, record_ops, IsTileOf, room_of}
 use Rattle.symbolic_tiles.proofs.Results.{OpsGive, results_do}
 
 module _ (op : ImmediateOp) (d a imm : ℕ) (legal : IsLegal (Immediate op d a imm)) where

@@ -1,6 +1,6 @@
 -- The tiles of mfcr and mtcrf, field by field.
 use Rattle.std.proofs.Common.{◌≡◌, ℕ, zero, suc, ◌+◌, ◌-◌, ◌<◌, ◌≤◌, cond, List, [], ◌∷◌, ◌++◌, append_assoc, refl, sym, ap, ◌∙◌, arith}
-use Rattle.word_kit.specs.Bits.{bit_of}
+use Rattle.machines.specs.Prelude.{bit_of}
 use Rattle.symbolic_tiles.specs.declared.symbolic_op.SymbolicOp.{SymbolicOp}
 use Rattle.symbolic_tiles.specs.declared.symbolic_op.SymbolicOp.TheVariants.{Put, FetchByte}
 use Rattle.base_alu.specs.Conditions.{next_field, mfcr_ops, chosen_ops, mtcrf_below}

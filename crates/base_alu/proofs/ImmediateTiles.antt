@@ -2,20 +2,9 @@
 use Rattle.std.proofs.Common.{◌≡◌, ℕ, ◌*◌, ◌^◌, ◌<◌, Bool, true, false, eqb, [], ◌++◌, refl, sym, arith, ◌≤◌}
 use Rattle.std.specs.Int.Bits.{and_lt}
 use Rattle.std.proofs.lemmas.Nat.{or_lt, xor_lt}
-use Rattle.word_kit.specs.Words.{complement, sign_extended}
+use Rattle.machines.specs.Prelude.{complement, sign_extended, Immediate, LogicImmediate, ImmediateOp, Addi, Addis, Addic, AddicRecord, Subfic, Mulli, LogicImmediateOp, Ori, Oris, Xori, Xoris, Andi, Andis, IsLegal, immediate_records, logic_immediate_records, logic_immediate, logic_word}
 use Rattle.word_kit.proofs.BitSums.{word_and-is, word_or-is, word_xor-is}
-use Rattle.ppc_isa.specs.declared.instr.Instr.TheVariants.{Immediate, LogicImmediate}
-use Rattle.ppc_isa.specs.declared.instr.ImmediateOp.{ImmediateOp}
-use Rattle.ppc_isa.specs.declared.instr.ImmediateOp.TheVariants.{Addi, Addis, Addic, AddicRecord, Subfic, Mulli}
-use Rattle.ppc_isa.specs.declared.instr.LogicImmediateOp.{LogicImmediateOp}
-use Rattle.ppc_isa.specs.declared.instr.LogicImmediateOp.TheVariants.{Ori, Oris, Xori, Xoris, Andi, Andis}
-use Rattle.ppc_isa.specs.Legal.{IsLegal}
-use Rattle.ppc_isa.specs.Locations.{immediate_records, logic_immediate_records}
-use Rattle.ppc_isa.specs.LogicRows.{logic_immediate}
-use Rattle.machines.specs.Guest.{logic_word}
-use Rattle.symbolic_tiles.specs.Tiles.{IsTileOf, room_of}
-use Rattle.symbolic_tiles.specs.SymbolicOps.{AreWellFormed}
-use Rattle.symbolic_tiles.specs.Recording.{record_ops}
+use Rattle.symbolic_tiles.specs.Prelude.{IsTileOf, room_of, AreWellFormed, record_ops}
 use Rattle.base_alu.proofs.Families.{immediate_do, logic_immediate_do}
 use Rattle.base_alu.specs.Immediates.{base_ops, immediate_ops, logic_immediate_ops}
 use Rattle.symbolic_tiles.proofs.Rooms.{product_word}

@@ -7,23 +7,11 @@ use Rattle.std.proofs.lemmas.Nat.{or_lt, xor_lt, and_comm, or_comm, pow-add}
 use Rattle.std.proofs.lemmas.Bool.{eqb-true}
 use Rattle.std.proofs.lemmas.Bool.Decides.{nat_tests}
 use Rattle.word_kit.proofs.Rooms.{below_factor}
-use Rattle.word_kit.specs.Words.{complement}
-use Rattle.word_kit.specs.Bits.{bit_of, word_and, word_or, word_xor, shifted_left, shifted_right}
+use Rattle.machines.specs.Prelude.{complement, bit_of, word_and, word_or, word_xor, shifted_left, shifted_right, Logic, LogicUnary, LogicOp, LogicUnaryOp, Cntlzw, Extsb, Extsh, IsLegal, left_by, right_by, leading_zeros, logic_unary_row, highest_one, choice_at}
 use Rattle.word_kit.proofs.BitSums.{word_and-is, word_or-is, word_xor-is}
-use Rattle.ppc_isa.specs.declared.instr.Instr.TheVariants.{Logic, LogicUnary}
-use Rattle.ppc_isa.specs.declared.instr.LogicOp.{LogicOp}
 use Rattle.ppc_isa.specs.declared.instr.LogicOp.TheVariants as logic
-use Rattle.ppc_isa.specs.declared.instr.LogicUnaryOp.{LogicUnaryOp}
-use Rattle.ppc_isa.specs.declared.instr.LogicUnaryOp.TheVariants.{Cntlzw, Extsb, Extsh}
-use Rattle.ppc_isa.specs.Legal.{IsLegal}
-use Rattle.ppc_isa.specs.ShiftRows.{left_by, right_by, leading_zeros}
-use Rattle.ppc_isa.specs.Rows.{logic_unary_row}
-use Rattle.ia_codec.specs.Scan.{highest_one}
-use Rattle.machines.specs.Host.{choice_at}
-use Rattle.symbolic_tiles.specs.Tiles.{IsTileOf, room_of}
+use Rattle.symbolic_tiles.specs.Prelude.{IsTileOf, room_of, AreWellFormed, record_ops}
 use Rattle.symbolic_tiles.specs.declared.symbolic_op.SymbolicOp.{SymbolicOp}
-use Rattle.symbolic_tiles.specs.SymbolicOps.{AreWellFormed}
-use Rattle.symbolic_tiles.specs.Recording.{record_ops}
 use Rattle.base_alu.proofs.Families.{logic_do}
 use Rattle.base_alu.specs.Logic.{logic_ops, logic_unary_ops}
 use Rattle.row_laws.proofs.Shapes.{logic_unary_gives}

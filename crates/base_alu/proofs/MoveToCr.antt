@@ -1,22 +1,14 @@
 -- The tile of mtcrf.
 use Rattle.std.proofs.Common.{◌≡◌, ◌≢◌, ℕ, zero, suc, ◌+◌, ◌-◌, ◌*◌, ◌/◌, ◌%◌, ◌^◌, ◌<◌, ◌≤◌, ◌⊎◌, inl, inr, Bool, true, false, cond, List, [], bit_and, refl, sym, ap, ◌∙◌, subst, arith, ◌++◌}
 use Rattle.std.proofs.lemmas.Nat.{and_mask}
-use Rattle.word_kit.specs.Bits.{bit_of}
-use Rattle.ppc_isa.specs.declared.instr.Instr.TheVariants.{MoveToCr}
-use Rattle.ppc_isa.specs.Legal.{IsLegal}
-use Rattle.reg_map.specs.Home.{location_range}
-use Rattle.machines.specs.Memory.{update, Rights}
-use Rattle.machines.specs.Guest.{Guest, at_next, put_cr, cr_word}
-use Rattle.machines.specs.Host.{Choice}
-use Rattle.reg_map.specs.Representation.{AreInRange}
-use Rattle.symbolic_tiles.specs.Tiles.{IsTileOf, room_of}
-use Rattle.symbolic_tiles.specs.SymbolicOps.{AreWellFormed}
+use Rattle.machines.specs.Prelude.{bit_of, MoveToCr, IsLegal, update, Rights, Guest, at_next, put_cr, cr_word, Choice}
+use Rattle.reg_map.specs.Prelude.{location_range, AreInRange}
+use Rattle.symbolic_tiles.specs.Prelude.{IsTileOf, room_of, AreWellFormed, SymbolicState, execute_ops}
 use Rattle.base_alu.specs.Conditions.{chosen_ops, mtcrf_below, mtcrf_ops}
 use Rattle.symbolic_tiles.proofs.Memory.{update_same, update_other}
 use Rattle.row_laws.proofs.Digits.{digit}
 use Rattle.row_laws.proofs.Fields.{field_of_word, put_cr_at, put_cr_off}
 use Rattle.row_laws.proofs.Chosen.{put_fields, field_chosen, field_kept}
-use Rattle.symbolic_tiles.specs.SymbolicState.{SymbolicState, execute_ops}
 use Rattle.symbolic_tiles.proofs.Done.{state_of, IsStateOf}
 use Rattle.symbolic_tiles.proofs.TileOf.{ops_are_tile, then_more}
 use Rattle.symbolic_tiles.proofs.Written.{fields_put_cr}

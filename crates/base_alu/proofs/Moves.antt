@@ -2,16 +2,10 @@
 use Rattle.std.proofs.Common.{◌≡◌, ℕ, ◌+◌, ◌-◌, ◌*◌, ◌/◌, ◌%◌, ◌^◌, ◌<◌, ◌≤◌, inl, inr, Bool, false, eqb, [], bit_and, bit_or, refl, sym, ap, ◌∙◌, subst, arith}
 use Rattle.std.proofs.lemmas.Nat.{or_shifted, and_shr, and_mod, and_mask}
 use Rattle.std.proofs.lemmas.Bool.Decides.{nat_tests}
-use Rattle.word_kit.specs.Bits.{bit_of, word_and}
+use Rattle.machines.specs.Prelude.{bit_of, word_and, MoveCrField, MoveFromCr, MoveFromSpr, MoveToSpr, Sync, Isync, IsLegal, IsSpr, with_field, update, Guest, at_next, put_cr, put_xer, cr_word, xer_word}
 use Rattle.word_kit.proofs.BitSums.{word_and-is}
-use Rattle.ppc_isa.specs.declared.instr.Instr.TheVariants.{MoveCrField, MoveFromCr, MoveFromSpr, MoveToSpr, Sync, Isync}
-use Rattle.ppc_isa.specs.Legal.{IsLegal, IsSpr}
-use Rattle.ppc_isa.specs.Recording.{with_field}
-use Rattle.reg_map.specs.Home.{location_range}
-use Rattle.machines.specs.Memory.{update}
-use Rattle.machines.specs.Guest.{Guest, at_next, put_cr, put_xer, cr_word, xer_word}
-use Rattle.reg_map.specs.Representation.{AreInRange}
-use Rattle.symbolic_tiles.specs.Tiles.{IsTileOf}
+use Rattle.reg_map.specs.Prelude.{location_range, AreInRange}
+use Rattle.symbolic_tiles.specs.Prelude.{IsTileOf}
 use Rattle.base_alu.specs.Conditions.{mcrf_ops, mfcr_ops}
 use Rattle.base_alu.specs.Specials.{mfspr_ops, mfxer_ops, mtspr_ops, mtxer_ops}
 use Rattle.row_laws.proofs.Digits.{bit_in_digit}

@@ -2,17 +2,9 @@
 use Rattle.std.proofs.Common.{◌≡◌, ℕ, ◌+◌, ◌-◌, ◌*◌, ◌/◌, ◌%◌, ◌^◌, ◌<◌, Bool, false, ◌++◌, bit_and, bit_or, refl, sym, ap, ◌∙◌, subst, arith}
 use Rattle.std.specs.Int.Bits.{and_lt}
 use Rattle.std.proofs.lemmas.Nat.{or_lt}
-use Rattle.word_kit.specs.Words.{complement}
-use Rattle.word_kit.specs.Bits.{word_and, word_or, rotated, mask, is_masked}
+use Rattle.machines.specs.Prelude.{complement, word_and, word_or, rotated, mask, is_masked, Instr, Rotate, Rlwimi, Rlwinm, Rlwnm, IsLegal, rotate, update, Rol}
 use Rattle.word_kit.proofs.BitSums.{word_and-is, word_or-is}
-use Rattle.ppc_isa.specs.declared.instr.Instr.{Instr}
-use Rattle.ppc_isa.specs.declared.instr.Instr.TheVariants.{Rotate}
-use Rattle.ppc_isa.specs.declared.instr.RotateOp.TheVariants.{Rlwimi, Rlwinm, Rlwnm}
-use Rattle.ppc_isa.specs.Legal.{IsLegal}
-use Rattle.ppc_isa.specs.RotateRows.{rotate}
-use Rattle.machines.specs.Memory.{update}
-use Rattle.symbolic_tiles.specs.Tiles.{IsTileOf}
-use Rattle.symbolic_tiles.specs.Recording.{record_ops}
+use Rattle.symbolic_tiles.specs.Prelude.{IsTileOf, record_ops}
 use Rattle.base_alu.specs.Shifts.{rlwimi_ops, rlwinm_ops, rlwnm_ops}
 use Rattle.row_laws.proofs.Bits.{below_power}
 use Rattle.row_laws.proofs.Shapes.{gives_in_a}
@@ -20,7 +12,6 @@ use Rattle.row_laws.proofs.Changes.{values_in}
 use Rattle.symbolic_tiles.proofs.Rooms.{shift_word}
 use Rattle.symbolic_tiles.proofs.Results.{plain, results_do}
 use Rattle.symbolic_tiles.proofs.Registers.{word, gpr}
-use Rattle.ia_codec.specs.declared.op.ShiftOp.TheVariants.{Rol}
 
 pub mask_word : (mb me : ℕ) → mask mb me < 2 ^ 32
 unfolding mask

@@ -7,17 +7,9 @@ use Rattle.std.proofs.lemmas.Nat.{pow-add, pow_below, and_comm, and_mask, div-mu
 use Rattle.std.proofs.lemmas.Nat.Bits.{and_pow}
 use Rattle.std.proofs.lemmas.Bool.{eqb-true}
 use Rattle.std.proofs.lemmas.Bool.Decides.{nat_tests}
-use Rattle.word_kit.specs.Words.{one_if, complement, is_negative}
-use Rattle.word_kit.specs.Bits.{shifted_arith, shifted_left}
+use Rattle.machines.specs.Prelude.{one_if, complement, is_negative, shifted_arith, shifted_left, Instr, ShiftImmediate, Logic, Sraw, IsLegal, arith_by, loses_ones, left_by, Sar}
 use Rattle.word_kit.proofs.Rooms.{below_factor}
-use Rattle.ppc_isa.specs.declared.instr.Instr.{Instr}
-use Rattle.ppc_isa.specs.declared.instr.Instr.TheVariants.{ShiftImmediate, Logic}
-use Rattle.ppc_isa.specs.declared.instr.LogicOp.TheVariants.{Sraw}
-use Rattle.ppc_isa.specs.Legal.{IsLegal}
-use Rattle.ppc_isa.specs.ShiftRows.{arith_by, loses_ones, left_by}
-use Rattle.ia_codec.specs.declared.op.ShiftOp.TheVariants.{Sar}
-use Rattle.symbolic_tiles.specs.Tiles.{IsTileOf}
-use Rattle.symbolic_tiles.specs.Recording.{record_ops}
+use Rattle.symbolic_tiles.specs.Prelude.{IsTileOf, record_ops}
 use Rattle.base_alu.specs.Shifts.{srawi_ops, sraw_ops}
 use Rattle.symbolic_tiles.proofs.Memory.{update_other}
 use Rattle.row_laws.proofs.Shapes.{shifts}

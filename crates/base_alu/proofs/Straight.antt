@@ -1,6 +1,6 @@
 -- Built instructions are no flow words.
 use Rattle.std.proofs.Common.{refl}
-use Rattle.ppc_isa.specs.declared.instr.Instr.TheVariants.{Branch, BranchConditional, BranchRegister, Trap, TrapImmediate, SystemCall}
+use Rattle.machines.specs.Prelude.{Branch, BranchConditional, BranchRegister, Trap, TrapImmediate, SystemCall}
 use Rattle.base_alu.specs.Laws.{BuiltAreStraight}
 
 pub built_are_straight : BuiltAreStraight

@@ -1,16 +1,9 @@
 -- Tiles of sums.
 use Rattle.std.proofs.Common.{◌≡◌, ℕ, ◌+◌, ◌%◌, ◌^◌, ◌<◌, Bool, true, false, not, eqb, ltb, ◌++◌, refl, sym, ap, ◌∙◌, arith}
 use Rattle.std.proofs.lemmas.Bool.Decides.{nat_tests}
-use Rattle.word_kit.specs.Words.{one_if, complement, sum_word, sum_carries, difference_word}
-use Rattle.ppc_isa.specs.declared.instr.Instr.{Instr}
-use Rattle.ppc_isa.specs.declared.instr.Instr.TheVariants.{Arithmetic}
-use Rattle.ppc_isa.specs.declared.instr.ArithmeticOp.TheVariants.{Addc, Adde, Subfe}
-use Rattle.ppc_isa.specs.Legal.{IsLegal}
+use Rattle.machines.specs.Prelude.{one_if, complement, sum_word, sum_carries, difference_word, Instr, Arithmetic, Addc, Adde, Subfe, IsLegal, Add, Below}
 use Rattle.ppc_isa.specs.Recording.{ca}
-use Rattle.ia_codec.specs.declared.op.AluOp.TheVariants.{Add}
-use Rattle.ia_codec.specs.declared.op.Condition.TheVariants.{Below}
-use Rattle.symbolic_tiles.specs.Tiles.{IsTileOf}
-use Rattle.symbolic_tiles.specs.Recording.{record_ops}
+use Rattle.symbolic_tiles.specs.Prelude.{IsTileOf, record_ops}
 use Rattle.base_alu.specs.Arithmetic.{carrying_ops, adde_ops, subfe_ops}
 use Rattle.row_laws.proofs.Shapes.{arithmetic_gives}
 use Rattle.row_laws.proofs.Changes.{values_in}

@@ -1,9 +1,7 @@
 -- Each tile does its row.
 use Rattle.std.proofs.Common.{arith}
 use Rattle.ppc_isa.specs.declared.instr.Instr.TheVariants as instr
-use Rattle.ppc_isa.specs.declared.instr.RotateOp.TheVariants.{Rlwinm, Rlwnm, Rlwimi}
-use Rattle.ppc_isa.specs.declared.instr.CompareImmediateOp.TheVariants.{Cmpi, Cmpli}
-use Rattle.ppc_isa.specs.declared.instr.CompareOp.TheVariants.{Cmp, Cmpl}
+use Rattle.machines.specs.Prelude.{Rlwinm, Rlwnm, Rlwimi, Cmpi, Cmpli, Cmp, Cmpl}
 use Rattle.symbolic_tiles.proofs.Placeable.{ops_placeable}
 use Rattle.symbolic_tiles.proofs.Lengths.{ops_short, few_ops}
 use Rattle.base_alu.specs.Tile.{symbolic_tile}

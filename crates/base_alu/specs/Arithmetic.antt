@@ -1,13 +1,7 @@
 -- The tiles of arithmetic with registers (this project's own). Results go through eax.
 use Rattle.std.specs.Prelude.{ℕ, Bool, true, false, List, [], ◌∷◌}
-use Rattle.ppc_isa.specs.declared.instr.ArithmeticOp.{ArithmeticOp}
-use Rattle.ppc_isa.specs.declared.instr.ArithmeticUnaryOp.{ArithmeticUnaryOp}
+use Rattle.machines.specs.Prelude.{ArithmeticOp, ArithmeticUnaryOp, AluOp, Add, Or, Adc, Sbb, Sub, Xor, Cmp, Condition, Below, NotBelow, Equal, eax, ecx, edx}
 use Rattle.ppc_isa.specs.Locations.{ca}
-use Rattle.ia_codec.specs.declared.op.AluOp.{AluOp}
-use Rattle.ia_codec.specs.declared.op.AluOp.TheVariants.{Add, Or, Adc, Sbb, Sub, Xor, Cmp}
-use Rattle.ia_codec.specs.declared.op.Condition.{Condition}
-use Rattle.ia_codec.specs.declared.op.Condition.TheVariants.{Below, NotBelow, Equal}
-use Rattle.ia_codec.specs.Registers.{eax, ecx, edx}
 use Rattle.symbolic_tiles.specs.declared.symbolic_op.SymbolicOperand.TheVariants.{Temporary, Location}
 use Rattle.symbolic_tiles.specs.declared.symbolic_op.SymbolicOp.{SymbolicOp}
 use Rattle.symbolic_tiles.specs.declared.symbolic_op.SymbolicOp.TheVariants.{Mov, MovImmediate, Put, Alu, AluImmediate, Test, Invert, Negate, Multiply, MultiplyWide, Divide, MoveIf, Signs, FetchByte, SetByte}

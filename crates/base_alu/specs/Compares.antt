@@ -1,16 +1,10 @@
 -- The tiles of compares (this project's own).
 use Rattle.std.specs.Prelude.{ℕ, List, [], ◌∷◌, ◌++◌}
-use Rattle.word_kit.specs.Words.{sign_extended}
-use Rattle.ppc_isa.specs.declared.instr.CompareImmediateOp.{CompareImmediateOp}
-use Rattle.ppc_isa.specs.declared.instr.CompareImmediateOp.TheVariants.{Cmpi, Cmpli}
-use Rattle.ppc_isa.specs.declared.instr.CompareOp.{CompareOp}
-use Rattle.ia_codec.specs.declared.op.AluOp.TheVariants.{Cmp}
-use Rattle.ia_codec.specs.declared.op.Condition.TheVariants.{Below, Less}
-use Rattle.ia_codec.specs.Registers.{eax}
+use Rattle.machines.specs.Prelude.{sign_extended, CompareImmediateOp, Cmpi, Cmpli, CompareOp, Cmp, Below, Less, eax}
 use Rattle.symbolic_tiles.specs.declared.symbolic_op.SymbolicOperand.TheVariants.{Location}
 use Rattle.symbolic_tiles.specs.declared.symbolic_op.SymbolicOp.{SymbolicOp}
 use Rattle.symbolic_tiles.specs.declared.symbolic_op.SymbolicOp.TheVariants.{Mov, Alu, AluImmediate}
-use Rattle.symbolic_tiles.specs.Recording.{field_ops}
+use Rattle.symbolic_tiles.specs.Prelude.{field_ops}
 use Rattle.ppc_isa.specs.declared.instr.CompareOp.TheVariants as registers
 
 abbrev pub cmpi_ops : ℕ → ℕ → List SymbolicOp

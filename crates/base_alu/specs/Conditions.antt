@@ -1,12 +1,6 @@
 -- The tiles that move CR by fields and combine its bits (this project's own).
 use Rattle.std.specs.Prelude.{ℕ, zero, suc, ◌-◌, ◌*◌, ◌/◌, ◌%◌, ◌^◌, List, [], ◌∷◌, ◌++◌, if◌then◌else◌}
-use Rattle.word_kit.specs.Bits.{bit_of}
-use Rattle.ppc_isa.specs.declared.instr.CrLogicOp.{CrLogicOp}
-use Rattle.ppc_isa.specs.declared.instr.CrLogicOp.TheVariants.{Crand, Cror, Crxor, Crnand, Crnor, Creqv, Crandc, Crorc}
-use Rattle.ppc_isa.specs.Locations.{cr}
-use Rattle.ia_codec.specs.declared.op.AluOp.TheVariants.{Or, And, Xor}
-use Rattle.ia_codec.specs.declared.op.ShiftOp.TheVariants.{Shl, Shr}
-use Rattle.ia_codec.specs.Registers.{eax, ecx}
+use Rattle.machines.specs.Prelude.{bit_of, CrLogicOp, Crand, Cror, Crxor, Crnand, Crnor, Creqv, Crandc, Crorc, cr, Or, And, Xor, Shl, Shr, eax, ecx}
 use Rattle.symbolic_tiles.specs.declared.symbolic_op.SymbolicOperand.TheVariants.{Temporary, Location}
 use Rattle.symbolic_tiles.specs.declared.symbolic_op.SymbolicOp.{SymbolicOp}
 use Rattle.symbolic_tiles.specs.declared.symbolic_op.SymbolicOp.TheVariants.{Mov, Put, Alu, AluImmediate, Invert, ShiftBy, FetchByte, PutByte}

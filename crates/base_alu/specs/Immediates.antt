@@ -1,16 +1,7 @@
 -- The tiles of arithmetic and logic with an immediate (this project's own). Results go through eax.
 use Rattle.std.specs.Prelude.{ℕ, ◌*◌, Bool, true, false, List, [], ◌∷◌, ◌==◌}
-use Rattle.word_kit.specs.Words.{sign_extended}
-use Rattle.ppc_isa.specs.declared.instr.ImmediateOp.{ImmediateOp}
-use Rattle.ppc_isa.specs.declared.instr.ImmediateOp.TheVariants.{Addi, Addis, Addic, AddicRecord, Subfic, Mulli}
-use Rattle.ppc_isa.specs.declared.instr.LogicImmediateOp.{LogicImmediateOp}
-use Rattle.ppc_isa.specs.declared.instr.LogicImmediateOp.TheVariants.{Ori, Oris, Xori, Xoris, Andi, Andis}
+use Rattle.machines.specs.Prelude.{sign_extended, ImmediateOp, Addi, Addis, Addic, AddicRecord, Subfic, Mulli, LogicImmediateOp, Ori, Oris, Xori, Xoris, Andi, Andis, AluOp, Add, Or, And, Sub, Xor, Below, NotBelow, eax, ecx, logic_word}
 use Rattle.ppc_isa.specs.Locations.{ca}
-use Rattle.ia_codec.specs.declared.op.AluOp.{AluOp}
-use Rattle.ia_codec.specs.declared.op.AluOp.TheVariants.{Add, Or, And, Sub, Xor}
-use Rattle.ia_codec.specs.declared.op.Condition.TheVariants.{Below, NotBelow}
-use Rattle.ia_codec.specs.Registers.{eax, ecx}
-use Rattle.machines.specs.Guest.{logic_word}
 use Rattle.symbolic_tiles.specs.declared.symbolic_op.SymbolicOperand.TheVariants.{Temporary, Location}
 use Rattle.symbolic_tiles.specs.declared.symbolic_op.SymbolicOp.{SymbolicOp}
 use Rattle.symbolic_tiles.specs.declared.symbolic_op.SymbolicOp.TheVariants.{Mov, MovImmediate, Put, Alu, AluImmediate, Multiply, SetByte}

@@ -1,13 +1,9 @@
 -- What holds of the tiles, for the layers above that reason on bytes.
 use Rattle.std.specs.Prelude.{◌≡◌, ◌≤◌, false, length, All}
-use Rattle.ppc_isa.specs.declared.map.Map.{Map}
-use Rattle.ppc_isa.specs.Map.{IsMap}
-use Rattle.ppc_isa.specs.declared.instr.Instr.{Instr}
-use Rattle.ppc_isa.specs.Legal.{IsLegal}
-use Rattle.reg_map.specs.Relocated.{IsPlaceable}
+use Rattle.machines.specs.Prelude.{Map, IsMap, Instr, IsLegal}
+use Rattle.reg_map.specs.Prelude.{IsPlaceable}
 use Rattle.row_laws.specs.FlowWords.{is_flow}
-use Rattle.symbolic_tiles.specs.Row.{DoesRow}
-use Rattle.symbolic_tiles.specs.Tiles.{IsTileOf, spelled_bytes}
+use Rattle.symbolic_tiles.specs.Prelude.{DoesRow, IsTileOf, spelled_bytes}
 use Rattle.base_alu.specs.Tile.{IsBuilt, symbolic_tile, tile}
 
 -- each legal built instruction has a tile

@@ -1,14 +1,6 @@
 -- The tiles of logic with registers (this project's own). Results go through eax.
 use Rattle.std.specs.Prelude.{ℕ, List, [], ◌∷◌}
-use Rattle.ppc_isa.specs.declared.instr.LogicOp.{LogicOp}
-use Rattle.ppc_isa.specs.declared.instr.LogicUnaryOp.{LogicUnaryOp}
-use Rattle.ppc_isa.specs.declared.instr.LogicUnaryOp.TheVariants.{Cntlzw, Extsb, Extsh}
-use Rattle.ia_codec.specs.declared.op.AluOp.{AluOp}
-use Rattle.ia_codec.specs.declared.op.AluOp.TheVariants.{Or, And, Xor}
-use Rattle.ia_codec.specs.declared.op.ShiftOp.TheVariants.{Shl, Shr}
-use Rattle.ia_codec.specs.declared.op.ExtendOp.TheVariants.{MovsxByte, MovsxHalf}
-use Rattle.ia_codec.specs.declared.op.Condition.TheVariants.{Equal}
-use Rattle.ia_codec.specs.Registers.{eax, edx}
+use Rattle.machines.specs.Prelude.{LogicOp, LogicUnaryOp, Cntlzw, Extsb, Extsh, AluOp, Or, And, Xor, Shl, Shr, MovsxByte, MovsxHalf, Equal, eax, edx}
 use Rattle.symbolic_tiles.specs.declared.symbolic_op.SymbolicOperand.TheVariants.{Location}
 use Rattle.symbolic_tiles.specs.declared.symbolic_op.SymbolicOp.{SymbolicOp}
 use Rattle.symbolic_tiles.specs.declared.symbolic_op.SymbolicOp.TheVariants.{Mov, MovImmediate, Put, Alu, AluImmediate, Invert, Widen, MoveIf, Scan}

@@ -1,15 +1,8 @@
 -- The tiles of shifts and rotates (this project's own). A host's count by cl has five bits, so the sixth of a guest's is
 -- tested beside it.
 use Rattle.std.specs.Prelude.{ℕ, ◌-◌, ◌^◌, List, [], ◌∷◌}
-use Rattle.word_kit.specs.Words.{complement}
-use Rattle.ppc_isa.specs.declared.instr.RotateOp.{RotateOp}
-use Rattle.ppc_isa.specs.declared.instr.RotateOp.TheVariants.{Rlwinm, Rlwnm, Rlwimi}
+use Rattle.machines.specs.Prelude.{complement, RotateOp, Rlwinm, Rlwnm, Rlwimi, Or, And, Xor, ShiftOp, Rol, Shl, Sar, NotEqual, eax, ecx, edx}
 use Rattle.ppc_isa.specs.Locations.{ca}
-use Rattle.ia_codec.specs.declared.op.AluOp.TheVariants.{Or, And, Xor}
-use Rattle.ia_codec.specs.declared.op.ShiftOp.{ShiftOp}
-use Rattle.ia_codec.specs.declared.op.ShiftOp.TheVariants.{Rol, Shl, Sar}
-use Rattle.ia_codec.specs.declared.op.Condition.TheVariants.{NotEqual}
-use Rattle.ia_codec.specs.Registers.{eax, ecx, edx}
 use Rattle.symbolic_tiles.specs.declared.symbolic_op.SymbolicOperand.TheVariants.{Temporary, Location}
 use Rattle.symbolic_tiles.specs.declared.symbolic_op.SymbolicOp.{SymbolicOp}
 use Rattle.symbolic_tiles.specs.declared.symbolic_op.SymbolicOp.TheVariants.{Mov, MovImmediate, Put, Alu, AluImmediate, TestImmediate, ShiftBy, ShiftCl, MoveIf, SetByte}

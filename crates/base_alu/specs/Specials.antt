@@ -1,9 +1,7 @@
 -- The tiles of moves from and to XER, LR and CTR (this project's own).
 use Rattle.std.specs.Prelude.{ℕ, ◌+◌, List, [], ◌∷◌, if◌then◌else◌, ◌==◌}
-use Rattle.ppc_isa.specs.Locations.{ca, so, ov, xc}
-use Rattle.ia_codec.specs.declared.op.AluOp.TheVariants.{Or, And}
-use Rattle.ia_codec.specs.declared.op.ShiftOp.TheVariants.{Shl, Shr}
-use Rattle.ia_codec.specs.Registers.{eax, ecx}
+use Rattle.machines.specs.Prelude.{ov, xc, Or, And, Shl, Shr, eax, ecx}
+use Rattle.ppc_isa.specs.Locations.{ca, so}
 use Rattle.symbolic_tiles.specs.declared.symbolic_op.SymbolicOperand.TheVariants.{Temporary, Location}
 use Rattle.symbolic_tiles.specs.declared.symbolic_op.SymbolicOp.{SymbolicOp}
 use Rattle.symbolic_tiles.specs.declared.symbolic_op.SymbolicOp.TheVariants.{Mov, Put, Alu, AluImmediate, ShiftBy, FetchByte, PutByte}

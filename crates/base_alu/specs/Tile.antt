@@ -1,15 +1,10 @@
 -- The tile of each instruction that is no flow word and has no access (this project's own): ops that do to the places of its
 -- locations, under any register map, what the instruction does to the locations.
 use Rattle.std.specs.Prelude.{List, [], ◌++◌}
-use Rattle.word_kit.specs.Bits.{mask}
-use Rattle.ppc_isa.specs.declared.map.Map.{Map}
-use Rattle.ppc_isa.specs.declared.instr.Instr.{Instr}
+use Rattle.machines.specs.Prelude.{mask, Map, Instr, Op, immediate_records, logic_immediate_records}
 use Rattle.symbolic_tiles.specs.declared.symbolic_op.SymbolicOp.{SymbolicOp}
-use Rattle.symbolic_tiles.specs.SymbolicOps.{ops_of}
-use Rattle.symbolic_tiles.specs.Recording.{record_ops}
-use Rattle.ia_codec.specs.declared.op.Op.{Op}
+use Rattle.symbolic_tiles.specs.Prelude.{ops_of, record_ops}
 use Rattle.ppc_isa.specs.declared.instr.Instr.TheVariants as instr
-use Rattle.ppc_isa.specs.Locations.{immediate_records, logic_immediate_records}
 use Rattle.base_alu.specs.Immediates.{immediate_ops, logic_immediate_ops}
 use Rattle.base_alu.specs.Arithmetic.{arithmetic_ops, unary_ops}
 use Rattle.base_alu.specs.Logic.{logic_ops, logic_unary_ops}

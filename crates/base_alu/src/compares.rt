@@ -1,7 +1,7 @@
 //! Compares.
 
 ghost use Rattle.std.specs.Prelude.{◌≡◌, ◌<◌, ◌++◌, IfOk};
-ghost use Rattle.symbolic_tiles.specs.Recording.{field_ops};
+ghost use Rattle.symbolic_tiles.specs.Prelude.{field_ops};
 ghost use Rattle.base_alu.specs.Compares.{compare_immediate_ops, compare_ops};
 
 use crate::recording::{Ops, comparing};

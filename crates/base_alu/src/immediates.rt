@@ -1,7 +1,7 @@
 //! Arithmetic and logic with an immediate.
 
 ghost use Rattle.std.specs.Prelude.{◌≡◌, ◌==◌, IfOk};
-ghost use Rattle.machines.specs.Guest.{logic_word};
+ghost use Rattle.machines.specs.Prelude.{logic_word};
 ghost use Rattle.base_alu.specs.Immediates.{base_ops, immediate_ops, logic_alu, logic_immediate_ops};
 
 use crate::recording::{CA, Ops};

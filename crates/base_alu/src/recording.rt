@@ -1,7 +1,7 @@
 //! The ends of tiles that leave a comparison in a field of CR.
 
 ghost use Rattle.std.specs.Prelude.{◌≡◌, ◌<◌, ◌++◌, IfOk};
-ghost use Rattle.symbolic_tiles.specs.Recording.{field_ops, record_ops};
+ghost use Rattle.symbolic_tiles.specs.Prelude.{field_ops, record_ops};
 
 use ia_codec::{AluOp, Condition};
 use reg_map::{EAX, ECX, EDX};

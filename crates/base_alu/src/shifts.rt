@@ -1,7 +1,7 @@
 //! Shifts and rotates. A host's count by cl has five bits: its sixth is tested beside.
 
 ghost use Rattle.std.specs.Prelude.{◌≡◌, ◌<◌, IfOk};
-ghost use Rattle.word_kit.specs.Bits.{mask as mask_of};
+ghost use Rattle.machines.specs.Prelude.{mask as mask_of};
 ghost use Rattle.base_alu.specs.Shifts.{shifted_ops, sraw_ops, srawi_ops, rotate_ops};
 
 use crate::recording::{CA, Ops};

@@ -3,35 +3,18 @@ use Rattle.std.proofs.Common.{◌≡◌, ℕ, ◌+◌, ◌-◌, ◌*◌, ◌/◌
 use Rattle.std.proofs.lemmas.Bool.Decides.{nat_tests}
 use Rattle.std.proofs.lemmas.Bool.{eqb-true}
 use Rattle.std.proofs.Math.Nat.{div-le_self}
-use Rattle.word_kit.specs.Words.{one_if, same, sum_word}
-use Rattle.word_kit.specs.Bits.{bit_of}
-use Rattle.ppc_isa.specs.declared.map.Map.{Map}
-use Rattle.ppc_isa.specs.declared.instr.Instr.TheVariants.{Branch, BranchConditional, BranchRegister}
-use Rattle.ppc_isa.specs.declared.instr.BranchRegisterOp.{BranchRegisterOp}
-use Rattle.ppc_isa.specs.declared.instr.BranchRegisterOp.TheVariants.{Bclr, Bcctr}
-use Rattle.ppc_isa.specs.Recording.{place}
-use Rattle.ppc_isa.specs.BranchRows.{bo_bit, count_allows, condition_allows}
-use Rattle.ia_codec.specs.Effect.{Flags}
-use Rattle.ia_codec.specs.Rows.{condition_holds, difference_word, difference_flags, logic_flags}
-use Rattle.reg_map.specs.Home.{location_range}
-use Rattle.machines.specs.Memory.{update, Rights}
-use Rattle.machines.specs.Guest.{Guest, cr_word, behind, branch_target, linked, register_target, branches}
-use Rattle.machines.specs.Host.{Choice}
-use Rattle.reg_map.specs.Representation.{AreInRange}
+use Rattle.machines.specs.Prelude.{one_if, same, sum_word, bit_of, Map, Branch, BranchConditional, BranchRegister, BranchRegisterOp, Bclr, Bcctr, place, bo_bit, count_allows, condition_allows, Flags, condition_holds, difference_word, difference_flags, logic_flags, update, Rights, Guest, cr_word, behind, branch_target, linked, register_target, branches, Choice}
+use Rattle.reg_map.specs.Prelude.{location_range, AreInRange}
 use Rattle.symbolic_tiles.specs.declared.tile_item.TileItem.{TileItem}
 use Rattle.symbolic_tiles.specs.declared.tile_item.TileItem.TheVariants.{BranchTo, BranchIndirect}
-use Rattle.symbolic_tiles.specs.TileItems.{doing, AreItems}
-use Rattle.base_flow.specs.Branches.{link_ops, count_ops, count_fails, bit_ops, bit_fails, unless, otherwise, branch_items, target_register}
-use Rattle.base_flow.specs.Tile.{items_of}
+use Rattle.symbolic_tiles.specs.Prelude.{doing, AreItems, SymbolicState, execute_ops, AreWellFormed, SymbolicExit, Out, execute}
+use Rattle.base_flow.specs.Prelude.{link_ops, count_ops, count_fails, bit_ops, bit_fails, unless, otherwise, branch_items, target_register, items_of}
 use Rattle.row_laws.proofs.Digits.{bit_in_digit}
 use Rattle.row_laws.proofs.Fields.{field_of_word}
-use Rattle.symbolic_tiles.specs.SymbolicState.{SymbolicState, execute_ops}
-use Rattle.symbolic_tiles.specs.SymbolicOps.{AreWellFormed}
 use Rattle.symbolic_tiles.proofs.Done.{state_of}
 use Rattle.symbolic_tiles.proofs.Results.{Then}
 use Rattle.symbolic_tiles.proofs.Small.{each_pair}
 use Rattle.symbolic_tiles.proofs.Registers.{field_small}
-use Rattle.symbolic_tiles.specs.SymbolicExit.{SymbolicExit, Out, execute}
 use Rattle.symbolic_tiles.proofs.FlowDone.{IsOut, ItemsDo, doing_are, update_in_range, ops_go, decides}
 
 -- CTR falls by 1

@@ -1,22 +1,13 @@
 -- The tiles of flow words have few bytes.
 use Rattle.std.proofs.Common.{ℕ, ◌+◌, ◌≤◌, Bool, true, false, cond, not, ◌&&◌, eqb, List, [], ◌∷◌, arith}
-use Rattle.word_kit.specs.Bits.{bit_of}
+use Rattle.machines.specs.Prelude.{bit_of, bo_bit, Condition, Below, Equal, Above, Less, Greater, behind, branch_target}
 use Rattle.ppc_isa.specs.declared.instr.Instr.TheVariants as instr
-use Rattle.ppc_isa.specs.BranchRows.{bo_bit}
-use Rattle.ia_codec.specs.declared.op.Condition.{Condition}
-use Rattle.ia_codec.specs.declared.op.Condition.TheVariants.{Below, Equal, Above, Less, Greater}
-use Rattle.machines.specs.Guest.{behind, branch_target}
 use Rattle.symbolic_tiles.specs.declared.symbolic_op.SymbolicOp.{SymbolicOp}
 use Rattle.symbolic_tiles.specs.declared.tile_item.TileItem.{TileItem}
 use Rattle.symbolic_tiles.specs.declared.tile_item.TileItem.TheVariants.{Label, BranchTo, BranchIndirect, Trap}
-use Rattle.symbolic_tiles.specs.Tiles.{room_of}
-use Rattle.symbolic_tiles.specs.TileItems.{doing}
+use Rattle.symbolic_tiles.specs.Prelude.{room_of, doing}
 use Rattle.symbolic_tiles.proofs.Lengths.{item_room, items_room, items_short, doing_room}
-use Rattle.base_flow.specs.Branches.{link_ops, count_ops, count_fails, bit_ops, bit_fails, unless, otherwise, branch_items}
-use Rattle.base_flow.specs.Traps.{when_jump, trap_tests, trap_items, tw_ops, twi_ops}
-use Rattle.base_flow.specs.SystemCall.{selection_items, request_items, answer_items, success_items, failure_items, error_items, done_items}
-use Rattle.base_flow.specs.Tile.{items_of}
-use Rattle.base_flow.specs.Laws.{FlowTilesAreShort}
+use Rattle.base_flow.specs.Prelude.{link_ops, count_ops, count_fails, bit_ops, bit_fails, unless, otherwise, branch_items, when_jump, trap_tests, trap_items, tw_ops, twi_ops, selection_items, request_items, answer_items, success_items, failure_items, error_items, done_items, items_of, FlowTilesAreShort}
 
 linked_room : (link : Bool) (next : ℕ) (items : List TileItem) → items_room (doing (link_ops link next) items) ≤ 10 + items_room items
 linked_room true next items = omega arith

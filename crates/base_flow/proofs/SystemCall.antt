@@ -3,26 +3,16 @@ use Rattle.std.proofs.Common.{◌≡◌, ◌≢◌, ℕ, ◌+◌, ◌-◌, ◌%�
 use Rattle.std.proofs.lemmas.Bool.{eqb-true}
 use Rattle.std.proofs.lemmas.Bool.Decides.{nat_tests}
 use Rattle.space.specs.declared.call.End.TheVariants as endings
-use Rattle.space.specs.Reports.{ListedCall, Read, Write, Close, AnswerValue, Got, Took, Error, Given, Gives, Fails, given, error_of}
-use Rattle.ppc_isa.specs.declared.map.Map.{Map}
+use Rattle.machines.specs.Prelude.{ListedCall, Read, Write, Close, AnswerValue, Got, Took, Error, Given, Gives, Fails, given, error_of, Map, Flags, difference_word, update, block, put_block, each_byte, Rights, Guest, behind, after_guest_call, guest_asks, guest_system_call, without_so, with_so, Choice}
 use Rattle.ppc_isa.specs.declared.instr.Instr.TheVariants as instr
-use Rattle.ia_codec.specs.Effect.{Flags}
-use Rattle.ia_codec.specs.Rows.{difference_word}
-use Rattle.base_flow.specs.SystemCall.{done_items, error_items, failure_items, success_items, answer_items, request_items, selection_items}
-use Rattle.machines.specs.Memory.{update, block, put_block, each_byte, Rights}
-use Rattle.machines.specs.Guest.{Guest, behind, after_guest_call, guest_asks, guest_system_call, without_so, with_so}
-use Rattle.machines.specs.Host.{Choice}
-use Rattle.reg_map.specs.Representation.{AreInRange}
-use Rattle.symbolic_tiles.specs.Row.{WritesHeld}
-use Rattle.base_flow.specs.Tile.{items_of}
-use Rattle.symbolic_tiles.specs.TileItems.{IsFree, AreItems}
+use Rattle.base_flow.specs.Prelude.{done_items, error_items, failure_items, success_items, answer_items, request_items, selection_items, items_of}
+use Rattle.reg_map.specs.Prelude.{AreInRange}
+use Rattle.symbolic_tiles.specs.Prelude.{WritesHeld, IsFree, AreItems, SymbolicState, Out, Stopped, with_given, execute}
 use Rattle.symbolic_tiles.proofs.Small.{each_true}
 use Rattle.symbolic_tiles.proofs.Places.{each_of}
-use Rattle.symbolic_tiles.specs.SymbolicState.{SymbolicState}
 use Rattle.symbolic_tiles.proofs.Shows.{bytes_held}
 use Rattle.symbolic_tiles.proofs.Done.{state_of}
 use Rattle.symbolic_tiles.proofs.Signed.{zero_test}
-use Rattle.symbolic_tiles.specs.SymbolicExit.{Out, Stopped, with_given, execute}
 use Rattle.symbolic_tiles.proofs.Relates.{error_bounds, length_block}
 use Rattle.symbolic_tiles.proofs.FlowDone.{IsOut, FitsExit, AreShort, ItemsDo, update_in_range}
 

@@ -1,27 +1,13 @@
 -- Each flow word.
 use Rattle.std.proofs.Common.{◌≡◌, ℕ, ◌+◌, ◌^◌, ◌<◌, ◌≤◌, inr, Bool, true, false, cond, not, ◌&&◌, eqb, List, [], ◌∷◌, length, Some, None, refl, sym, ap, ◌∙◌, subst, arith}
-use Rattle.word_kit.specs.Bits.{bit_of}
-use Rattle.ppc_isa.specs.declared.map.Map.{Map}
-use Rattle.ppc_isa.specs.Map.{IsMap}
-use Rattle.ppc_isa.specs.declared.instr.Instr.{Instr}
+use Rattle.machines.specs.Prelude.{bit_of, Map, IsMap, Instr, IsLegal, bo_bit, Condition, Below, NotBelow, Equal, Above, Less, Greater, guest_executes, behind, branch_target}
 use Rattle.ppc_isa.specs.declared.instr.Instr.TheVariants as instr
-use Rattle.ppc_isa.specs.Legal.{IsLegal}
-use Rattle.ppc_isa.specs.BranchRows.{bo_bit}
-use Rattle.ia_codec.specs.declared.op.Condition.{Condition}
-use Rattle.ia_codec.specs.declared.op.Condition.TheVariants.{Below, NotBelow, Equal, Above, Less, Greater}
 use Rattle.symbolic_tiles.specs.declared.flow_op.FlowOp.{FlowOp}
-use Rattle.machines.specs.Guest.{guest_executes, behind, branch_target}
-use Rattle.symbolic_tiles.specs.Flow.{Fits, flow as flow_go, FlowDoesWordAt}
+use Rattle.symbolic_tiles.specs.Prelude.{Fits, flow as flow_go, FlowDoesWordAt, flows_of, doing, IsFree, AreMarked, has_mark}
 use Rattle.symbolic_tiles.specs.declared.symbolic_op.SymbolicOp.{SymbolicOp}
 use Rattle.symbolic_tiles.specs.declared.tile_item.TileItem.{TileItem}
 use Rattle.symbolic_tiles.specs.declared.tile_item.TileItem.TheVariants.{Label, BranchTo, BranchIndirect, Trap, Undefined}
-use Rattle.symbolic_tiles.specs.TileItems.{flows_of, doing, IsFree}
-use Rattle.base_flow.specs.Traps.{when_jump, trap_tests, trap_items, tw_ops, twi_ops}
-use Rattle.base_flow.specs.Branches.{link_ops, count_ops, count_fails, bit_ops, bit_fails, unless, otherwise, branch_items}
-use Rattle.base_flow.specs.SystemCall.{done_items, error_items, failure_items, success_items, answer_items, request_items, selection_items}
-use Rattle.base_flow.specs.Tile.{LeavesEbx, items_of, HasTile}
-use Rattle.base_flow.specs.Laws.{BuiltHaveTiles, FlowTilesAreLaid, FlowTilesDoRows, IllegalTileDoesWord, FlowTilesAreMarked}
-use Rattle.symbolic_tiles.specs.Marks.{AreMarked, has_mark}
+use Rattle.base_flow.specs.Prelude.{when_jump, trap_tests, trap_items, tw_ops, twi_ops, link_ops, count_ops, count_fails, bit_ops, bit_fails, unless, otherwise, branch_items, done_items, error_items, failure_items, success_items, answer_items, request_items, selection_items, LeavesEbx, items_of, HasTile, BuiltHaveTiles, FlowTilesAreLaid, FlowTilesDoRows, IllegalTileDoesWord, FlowTilesAreMarked}
 use Rattle.symbolic_tiles.proofs.Places.{slot_content}
 use Rattle.symbolic_tiles.proofs.FlowDone.{items_done}
 use Rattle.symbolic_tiles.proofs.Placeable.{items_laid}

@@ -3,33 +3,17 @@ use Rattle.std.proofs.Common.{◌≡◌, ℕ, ◌^◌, ◌<◌, Bool, true, fals
 use Rattle.std.proofs.lemmas.Bool.{eqb-true}
 use Rattle.std.proofs.lemmas.Bool.Decides.{nat_tests}
 use Rattle.space.specs.declared.call.End.TheVariants as endings
-use Rattle.word_kit.specs.Words.{sign_extended, is_less}
-use Rattle.word_kit.specs.Bits.{bit_of}
-use Rattle.ppc_isa.specs.declared.map.Map.{Map}
-use Rattle.ppc_isa.specs.declared.instr.Instr.TheVariants.{Trap, TrapImmediate}
-use Rattle.ppc_isa.specs.CompareRows.{trap_holds}
-use Rattle.ia_codec.specs.declared.op.Condition.{Condition}
-use Rattle.ia_codec.specs.declared.op.Condition.TheVariants.{Below, Equal, Above, Less, Greater}
-use Rattle.ia_codec.specs.Effect.{Flags}
-use Rattle.ia_codec.specs.Rows.{condition_holds, difference_flags}
-use Rattle.runs.specs.Machine.{Goes, Ends}
-use Rattle.machines.specs.Memory.{Rights}
-use Rattle.machines.specs.Guest.{Guest, behind, at_next}
-use Rattle.machines.specs.Host.{Choice}
-use Rattle.reg_map.specs.Representation.{AreInRange}
+use Rattle.machines.specs.Prelude.{sign_extended, is_less, bit_of, Map, Trap, TrapImmediate, trap_holds, Condition, Below, Equal, Above, Less, Greater, Flags, condition_holds, difference_flags, Goes, Ends, Rights, Guest, behind, at_next, Choice}
+use Rattle.reg_map.specs.Prelude.{AreInRange}
 use Rattle.symbolic_tiles.specs.declared.symbolic_op.SymbolicOp.{SymbolicOp}
 use Rattle.symbolic_tiles.specs.declared.tile_item.TileItem.{TileItem}
 use Rattle.symbolic_tiles.specs.declared.tile_item.TileItem.TheVariants.{Label, BranchTo, Trap as Int3}
-use Rattle.symbolic_tiles.specs.TileItems.{doing, AreItems}
-use Rattle.base_flow.specs.Traps.{when_jump, trap_tests, trap_items, tw_ops, twi_ops}
-use Rattle.base_flow.specs.Tile.{items_of}
-use Rattle.symbolic_tiles.specs.SymbolicState.{SymbolicState, execute_ops}
-use Rattle.symbolic_tiles.specs.SymbolicOps.{AreWellFormed}
+use Rattle.symbolic_tiles.specs.Prelude.{doing, AreItems, SymbolicState, execute_ops, AreWellFormed, SymbolicExit, execute}
+use Rattle.base_flow.specs.Prelude.{when_jump, trap_tests, trap_items, tw_ops, twi_ops, items_of}
 use Rattle.symbolic_tiles.proofs.Done.{state_of}
 use Rattle.symbolic_tiles.proofs.Results.{Then}
 use Rattle.symbolic_tiles.proofs.Signed.{zero_test, less_by_flags, below_by_flags, one_of_three}
 use Rattle.symbolic_tiles.proofs.Registers.{word, gpr, HasFlags, extended_word}
-use Rattle.symbolic_tiles.specs.SymbolicExit.{SymbolicExit, execute}
 use Rattle.symbolic_tiles.proofs.FlowDone.{FitsExit, ItemsDo, doing_are, ops_go, jump_goes}
 
 -- greater is told by the flags

@@ -2,18 +2,13 @@
 -- target in LR is read before; then CTR falls, unless BO bit 2 is one, and decides by BO bit 3; then the bit BI of CR decides by
 -- BO bit 1, unless BO bit 0 is one.
 use Rattle.std.specs.Prelude.{ℕ, ◌+◌, ◌/◌, ◌%◌, ◌^◌, Bool, true, false, not, ◌&&◌, List, [], ◌∷◌, Some}
-use Rattle.ppc_isa.specs.declared.instr.BranchRegisterOp.{BranchRegisterOp}
-use Rattle.ppc_isa.specs.declared.instr.BranchRegisterOp.TheVariants.{Bclr, Bcctr}
-use Rattle.ppc_isa.specs.BranchRows.{bo_bit}
-use Rattle.ia_codec.specs.declared.op.AluOp.TheVariants.{Sub}
-use Rattle.ia_codec.specs.declared.op.Condition.{Condition}
-use Rattle.ia_codec.specs.declared.op.Condition.TheVariants.{Equal, NotEqual}
+use Rattle.machines.specs.Prelude.{BranchRegisterOp, Bclr, Bcctr, bo_bit, Sub, Condition, Equal, NotEqual}
 use Rattle.symbolic_tiles.specs.declared.symbolic_op.SymbolicOperand.TheVariants.{Location}
 use Rattle.symbolic_tiles.specs.declared.symbolic_op.SymbolicOp.{SymbolicOp}
 use Rattle.symbolic_tiles.specs.declared.symbolic_op.SymbolicOp.TheVariants.{Mov, Put, PutImmediate, AluImmediate, TestImmediate, FetchByte}
 use Rattle.symbolic_tiles.specs.declared.tile_item.TileItem.{TileItem}
 use Rattle.symbolic_tiles.specs.declared.tile_item.TileItem.TheVariants.{JumpIf, Label, BranchTo}
-use Rattle.symbolic_tiles.specs.TileItems.{doing}
+use Rattle.symbolic_tiles.specs.Prelude.{doing}
 
 -- LK: LR gets the next address
 abbrev pub link_ops : Bool → ℕ → List SymbolicOp

@@ -1,12 +1,7 @@
 -- What holds of the tiles, for the layers above that reason on bytes.
 use Rattle.std.specs.Prelude.{◌≡◌, ℕ, ◌≤◌, length, Some, None}
-use Rattle.ppc_isa.specs.declared.map.Map.{Map}
-use Rattle.ppc_isa.specs.Map.{IsMap}
-use Rattle.ppc_isa.specs.declared.instr.Instr.{Instr}
-use Rattle.ppc_isa.specs.Legal.{IsLegal}
-use Rattle.symbolic_tiles.specs.TileItems.{flows_of}
-use Rattle.symbolic_tiles.specs.Flow.{FlowDoesWord}
-use Rattle.symbolic_tiles.specs.Marks.{AreMarked, AreLaid, flows_room}
+use Rattle.machines.specs.Prelude.{Map, IsMap, Instr, IsLegal}
+use Rattle.symbolic_tiles.specs.Prelude.{flows_of, FlowDoesWord, AreMarked, AreLaid, flows_room}
 use Rattle.base_flow.specs.Tile.{IsBuilt, HasTile, illegal_items, tile}
 
 -- each tile of a flow word does what its row does

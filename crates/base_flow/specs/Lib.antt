@@ -3,3 +3,4 @@ pub mod Traps
 pub mod SystemCall
 pub mod Tile
 pub mod Laws
+pub mod Prelude

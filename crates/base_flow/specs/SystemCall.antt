@@ -4,8 +4,7 @@
 -- from -4095 to -1. Label 0 is that of exit_group, 1 of the call, 2 where eax has an error's number negated, 3 where ecx has
 -- an error's number, 4 behind both answers.
 use Rattle.std.specs.Prelude.{ℕ, List, [], ◌∷◌, Some, None}
-use Rattle.ia_codec.specs.declared.op.AluOp.TheVariants.{Cmp, And, Or}
-use Rattle.ia_codec.specs.declared.op.Condition.TheVariants.{Equal, NotBelow}
+use Rattle.machines.specs.Prelude.{Cmp, And, Or, Equal, NotBelow}
 use Rattle.symbolic_tiles.specs.declared.symbolic_op.SymbolicOperand.TheVariants.{Temporary, Location}
 use Rattle.symbolic_tiles.specs.declared.symbolic_op.SymbolicOp.TheVariants.{Mov, MovImmediate, Put, AluImmediate, Negate, FetchByte, PutByte}
 use Rattle.symbolic_tiles.specs.declared.tile_item.TileItem.{TileItem}

@@ -1,16 +1,14 @@
 -- The tile of each flow word (this project's own).
 use Rattle.std.specs.Prelude.{◌≡◌, ℕ, true, List, [], ◌∷◌, None}
-use Rattle.ppc_isa.specs.declared.map.Map.{Map}
-use Rattle.ppc_isa.specs.declared.instr.Instr.{Instr}
+use Rattle.machines.specs.Prelude.{Map, Instr, behind, branch_target}
 use Rattle.ppc_isa.specs.declared.instr.Instr.TheVariants as instr
-use Rattle.machines.specs.Guest.{behind, branch_target}
 use Rattle.symbolic_tiles.specs.declared.symbolic_op.SymbolicOperand.TheVariants.{Location}
 use Rattle.symbolic_tiles.specs.declared.symbolic_op.SymbolicOp.TheVariants.{Mov}
 use Rattle.symbolic_tiles.specs.declared.tile_item.TileItem.{TileItem}
 use Rattle.symbolic_tiles.specs.declared.tile_item.TileItem.TheVariants.{Do, BranchTo, BranchIndirect, Undefined}
 use Rattle.symbolic_tiles.specs.declared.flow_op.FlowOp.{FlowOp}
 use Rattle.row_laws.specs.FlowWords.{is_flow}
-use Rattle.symbolic_tiles.specs.TileItems.{flows_of, doing}
+use Rattle.symbolic_tiles.specs.Prelude.{flows_of, doing}
 use Rattle.base_flow.specs.Branches.{link_ops, branch_items, target_register}
 use Rattle.base_flow.specs.Traps.{trap_items, tw_ops, twi_ops}
 use Rattle.base_flow.specs.SystemCall.{selection_items}

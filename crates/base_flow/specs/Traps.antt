@@ -1,17 +1,13 @@
 -- The tiles of tw and twi (this project's own; the rows are Power ISA Book I, 3.3.11): the run ends on each test that TO
 -- chooses.
 use Rattle.std.specs.Prelude.{ℕ, Bool, true, false, cond, eqb, List, [], ◌∷◌, Some}
-use Rattle.word_kit.specs.Words.{sign_extended}
-use Rattle.word_kit.specs.Bits.{bit_of}
-use Rattle.ia_codec.specs.declared.op.AluOp.TheVariants.{Cmp}
-use Rattle.ia_codec.specs.declared.op.Condition.{Condition}
-use Rattle.ia_codec.specs.declared.op.Condition.TheVariants.{Below, Equal, Above, Less, Greater}
+use Rattle.machines.specs.Prelude.{sign_extended, bit_of, Cmp, Condition, Below, Equal, Above, Less, Greater}
 use Rattle.symbolic_tiles.specs.declared.symbolic_op.SymbolicOperand.TheVariants.{Location}
 use Rattle.symbolic_tiles.specs.declared.symbolic_op.SymbolicOp.{SymbolicOp}
 use Rattle.symbolic_tiles.specs.declared.symbolic_op.SymbolicOp.TheVariants.{Mov, Alu, AluImmediate}
 use Rattle.symbolic_tiles.specs.declared.tile_item.TileItem.{TileItem}
 use Rattle.symbolic_tiles.specs.declared.tile_item.TileItem.TheVariants.{JumpIf, Label, BranchTo, Trap}
-use Rattle.symbolic_tiles.specs.TileItems.{doing}
+use Rattle.symbolic_tiles.specs.Prelude.{doing}
 
 -- a jump to a mark where a test is chosen
 abbrev pub when_jump : Bool → Condition → ℕ → List TileItem → List TileItem

@@ -1,8 +1,8 @@
 //! The tiles of branches.
 
 ghost use Rattle.std.specs.Prelude.{◌≡◌, ◌<◌, ◌^◌, ◌/◌, ◌%◌, [], ◌∷◌, IfOk};
-ghost use Rattle.ppc_isa.specs.BranchRows.{bo_bit};
-ghost use Rattle.symbolic_tiles.specs.TileItems.{doing as doing_items};
+ghost use Rattle.machines.specs.Prelude.{bo_bit};
+ghost use Rattle.symbolic_tiles.specs.Prelude.{doing as doing_items};
 ghost use Rattle.base_flow.specs.Branches.{link_ops, count_fails as count_failing, bit_fails as bit_failing, otherwise as otherwise_items, branch_items, target_register as register_of};
 
 use crate::items::{Items, doing, unless};

@@ -1,7 +1,7 @@
 //! Where branches lead.
 
 ghost use Rattle.std.specs.Prelude.{◌≡◌, ◌<◌, ◌^◌};
-ghost use Rattle.machines.specs.Guest.{branch_target, behind};
+ghost use Rattle.machines.specs.Prelude.{branch_target, behind};
 
 use reg_map::signed_immediate;
 

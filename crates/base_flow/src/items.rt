@@ -1,7 +1,7 @@
 //! Items that are put together.
 
 ghost use Rattle.std.specs.Prelude.{◌≡◌, true, IfOk};
-ghost use Rattle.symbolic_tiles.specs.TileItems.{doing as doing_items};
+ghost use Rattle.symbolic_tiles.specs.Prelude.{doing as doing_items};
 ghost use Rattle.base_flow.specs.Branches.{unless as unless_items};
 ghost use Rattle.base_flow.specs.Traps.{when_jump as when_items};
 

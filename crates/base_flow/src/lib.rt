@@ -10,10 +10,9 @@ mod table;
 mod traps;
 
 ghost use Rattle.std.specs.Prelude.{◌≡◌, ◌≤◌, IfOk, Some, length};
-ghost use Rattle.ppc_isa.specs.Legal.{IsLegal};
-ghost use Rattle.reg_map.specs.Place.{IsMap};
-ghost use Rattle.symbolic_tiles.specs.Flow.{FlowDoesWordAt};
-ghost use Rattle.symbolic_tiles.specs.Marks.{AreMarked, AreLaid};
+ghost use Rattle.machines.specs.Prelude.{IsLegal};
+ghost use Rattle.reg_map.specs.Prelude.{IsMap};
+ghost use Rattle.symbolic_tiles.specs.Prelude.{FlowDoesWordAt, AreMarked, AreLaid};
 ghost use Rattle.base_flow.specs.Tile.{HasTile, tile};
 
 use crate::table::items;

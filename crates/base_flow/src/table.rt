@@ -1,7 +1,7 @@
 //! The table of tiles.
 
 ghost use Rattle.std.specs.Prelude.{◌≡◌, ◌↔◌, true, IfOk, IsTrue};
-ghost use Rattle.ppc_isa.specs.Legal.{IsLegal};
+ghost use Rattle.machines.specs.Prelude.{IsLegal};
 ghost use Rattle.row_laws.specs.FlowWords.{is_flow as is_flow_word};
 ghost use Rattle.base_flow.specs.Tile.{IsBuilt, items_of};
 

@@ -1,38 +1,12 @@
 -- Tiles of all loads and stores of one number.
 use Rattle.std.proofs.Common.{◌≡◌, ℕ, ◌+◌, ◌/◌, ◌%◌, ◌^◌, ◌<◌, Bool, true, false, cond, eqb, List, ◌++◌, refl, ap, ◌∙◌, arith, ◌≤◌}
 use Rattle.std.proofs.lemmas.Bool.Decides.{nat_tests}
-use Rattle.word_kit.specs.Words.{sign_extended}
-use Rattle.word_kit.specs.Bits.{shifted_arith}
+use Rattle.machines.specs.Prelude.{sign_extended, shifted_arith, LoadOp, Lwz, Lbz, Lhz, Lha, LoadUpdateOp, Lwzu, Lbzu, Lhzu, Lhau, LoadIndexedOp, Lwzx, Lbzx, Lhzx, Lhax, Lwbrx, Lhbrx, LoadIndexedUpdateOp, Lwzux, Lbzux, Lhzux, Lhaux, StoreOp, Stw, Stb, Sth, StoreUpdateOp, Stwu, Stbu, Sthu, StoreIndexedOp, Stwx, Stbx, Sthx, Stwbrx, Sthbrx, StoreIndexedUpdateOp, Stwux, Stbux, Sthux, IsLegal, half_extended, word_reversed, half_reversed, Flags, swapped, load, store, load_big, store_big, Rights, Guest, Choice}
 use Rattle.ppc_isa.specs.declared.instr.Instr.TheVariants as instr
-use Rattle.ppc_isa.specs.declared.instr.LoadOp.{LoadOp}
-use Rattle.ppc_isa.specs.declared.instr.LoadOp.TheVariants.{Lwz, Lbz, Lhz, Lha}
-use Rattle.ppc_isa.specs.declared.instr.LoadUpdateOp.{LoadUpdateOp}
-use Rattle.ppc_isa.specs.declared.instr.LoadUpdateOp.TheVariants.{Lwzu, Lbzu, Lhzu, Lhau}
-use Rattle.ppc_isa.specs.declared.instr.LoadIndexedOp.{LoadIndexedOp}
-use Rattle.ppc_isa.specs.declared.instr.LoadIndexedOp.TheVariants.{Lwzx, Lbzx, Lhzx, Lhax, Lwbrx, Lhbrx}
-use Rattle.ppc_isa.specs.declared.instr.LoadIndexedUpdateOp.{LoadIndexedUpdateOp}
-use Rattle.ppc_isa.specs.declared.instr.LoadIndexedUpdateOp.TheVariants.{Lwzux, Lbzux, Lhzux, Lhaux}
-use Rattle.ppc_isa.specs.declared.instr.StoreOp.{StoreOp}
-use Rattle.ppc_isa.specs.declared.instr.StoreOp.TheVariants.{Stw, Stb, Sth}
-use Rattle.ppc_isa.specs.declared.instr.StoreUpdateOp.{StoreUpdateOp}
-use Rattle.ppc_isa.specs.declared.instr.StoreUpdateOp.TheVariants.{Stwu, Stbu, Sthu}
-use Rattle.ppc_isa.specs.declared.instr.StoreIndexedOp.{StoreIndexedOp}
-use Rattle.ppc_isa.specs.declared.instr.StoreIndexedOp.TheVariants.{Stwx, Stbx, Sthx, Stwbrx, Sthbrx}
-use Rattle.ppc_isa.specs.declared.instr.StoreIndexedUpdateOp.{StoreIndexedUpdateOp}
-use Rattle.ppc_isa.specs.declared.instr.StoreIndexedUpdateOp.TheVariants.{Stwux, Stbux, Sthux}
-use Rattle.ppc_isa.specs.Legal.{IsLegal}
-use Rattle.ppc_isa.specs.AccessRows.{half_extended, word_reversed, half_reversed}
-use Rattle.ia_codec.specs.Effect.{Flags}
-use Rattle.ia_codec.specs.Rows.{swapped}
-use Rattle.machines.specs.Memory.{load, store, load_big, store_big, Rights}
-use Rattle.machines.specs.Guest.{Guest}
-use Rattle.machines.specs.Host.{Choice}
-use Rattle.symbolic_tiles.specs.SymbolicOps.{AreWellFormed}
+use Rattle.symbolic_tiles.specs.Prelude.{AreWellFormed, SymbolicState, execute_ops, can_load, can_store, IsTileOf, room_of}
 use Rattle.base_mem.specs.Addresses.{immediate_address, indexed_address}
 use Rattle.base_mem.specs.Loads.{lwz_ops, lbz_ops, lhz_ops, lha_ops, lwbrx_ops, lhbrx_ops, put_ops, load_ops, load_update_ops, load_indexed_ops, load_indexed_update_ops}
 use Rattle.base_mem.specs.Stores.{stw_ops, stb_ops, sth_ops, stwbrx_ops, sthbrx_ops, update_ops, store_ops, store_update_ops, store_indexed_ops, store_indexed_update_ops}
-use Rattle.symbolic_tiles.specs.SymbolicState.{SymbolicState, execute_ops, can_load, can_store}
-use Rattle.symbolic_tiles.specs.Tiles.{IsTileOf, room_of}
 use Rattle.symbolic_tiles.proofs.Done.{state_of}
 use Rattle.symbolic_tiles.proofs.Results.{Then}
 use Rattle.symbolic_tiles.proofs.Registers.{word, gpr, extended_word}

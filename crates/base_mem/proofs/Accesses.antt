@@ -1,28 +1,15 @@
 -- Tiles of load_outcome and stores.
 use Rattle.symbolic_tiles.proofs.Lengths.{room_append}
 use Rattle.std.proofs.Common.{◌≡◌, ℕ, zero, suc, ◌+◌, ◌/◌, ◌%◌, ◌^◌, ◌<◌, ◌≤◌, Bool, true, false, cond, List, ◌++◌, Contains, Option, Some, None, refl, sym, ap, ◌∙◌, subst, arith}
-use Rattle.word_kit.specs.Words.{sign_extended}
-use Rattle.space.specs.declared.call.End.TheVariants.{Outside}
-use Rattle.ppc_isa.specs.declared.instr.Instr.{Instr}
-use Rattle.ppc_isa.specs.Legal.{IsLegal}
-use Rattle.ia_codec.specs.Effect.{Flags}
-use Rattle.ia_codec.specs.Rows.{swapped}
-use Rattle.reg_map.specs.Home.{location_range}
-use Rattle.runs.specs.Machine.{Goes, Ends}
-use Rattle.machines.specs.Memory.{update, load, store, load_big, store_big, each_byte, Rights}
-use Rattle.machines.specs.Guest.{Guest, effect_of, guest_acts, at_next, load_outcome}
-use Rattle.machines.specs.Host.{Choice}
-use Rattle.reg_map.specs.Representation.{AreInRange}
-use Rattle.symbolic_tiles.specs.Row.{span, WritesHeld}
+use Rattle.machines.specs.Prelude.{sign_extended, Outside, Instr, IsLegal, Flags, swapped, Goes, Ends, update, load, store, load_big, store_big, each_byte, Rights, Guest, effect_of, guest_acts, at_next, load_outcome, Choice}
+use Rattle.reg_map.specs.Prelude.{location_range, AreInRange}
+use Rattle.symbolic_tiles.specs.Prelude.{span, WritesHeld, AreWellFormed, SymbolicState, execute_ops, then_ops, can_load, can_store, IsTileOf, room_of}
 use Rattle.symbolic_tiles.specs.declared.symbolic_op.SymbolicOp.{SymbolicOp}
-use Rattle.symbolic_tiles.specs.SymbolicOps.{AreWellFormed}
 use Rattle.base_mem.specs.Addresses.{immediate_address}
 use Rattle.base_mem.specs.Loads.{lwz_ops, lhz_ops, put_ops}
 use Rattle.base_mem.specs.Stores.{stw_ops, update_ops}
 use Rattle.row_laws.proofs.Lists.{first_in, later_in}
-use Rattle.symbolic_tiles.specs.SymbolicState.{SymbolicState, execute_ops, then_ops, can_load, can_store}
 use Rattle.symbolic_tiles.proofs.Shows.{bytes_held}
-use Rattle.symbolic_tiles.specs.Tiles.{IsTileOf, room_of}
 use Rattle.symbolic_tiles.proofs.Done.{state_of, Given, IsStateOf}
 use Rattle.symbolic_tiles.proofs.TileOf.{ops_are_tile}
 use Rattle.symbolic_tiles.proofs.Small.{both_true}

@@ -2,24 +2,14 @@
 use Rattle.symbolic_tiles.proofs.Lengths.{room_append}
 use Rattle.std.proofs.Common.{◌≡◌, ◌≢◌, ℕ, zero, suc, ◌+◌, ◌-◌, ◌*◌, ◌%◌, ◌^◌, ◌<◌, ◌≤◌, ◌⊎◌, inl, inr, Bool, true, false, cond, ◌&&◌, eqb, leb, ltb, List, ◌++◌, refl, sym, ap, ◌∙◌, subst, arith}
 use Rattle.std.proofs.lemmas.Bool.Decides.{nat_tests}
-use Rattle.word_kit.specs.Words.{sign_extended}
-use Rattle.ppc_isa.specs.declared.instr.Instr.TheVariants.{Multiple}
-use Rattle.ppc_isa.specs.declared.instr.MultipleOp.TheVariants.{Lmw, Stmw}
-use Rattle.ppc_isa.specs.Legal.{IsLegal}
-use Rattle.ia_codec.specs.Rows.{swapped}
-use Rattle.reg_map.specs.Home.{location_range}
-use Rattle.machines.specs.Memory.{update, load, store, load_big, store_big, each_byte, Rights}
-use Rattle.machines.specs.Guest.{Guest, at_next, put_loaded, store_registers}
-use Rattle.machines.specs.Host.{Choice}
-use Rattle.reg_map.specs.Representation.{AreInRange}
-use Rattle.symbolic_tiles.specs.SymbolicOps.{AreWellFormed}
+use Rattle.machines.specs.Prelude.{sign_extended, Multiple, Lmw, Stmw, IsLegal, swapped, update, load, store, load_big, store_big, each_byte, Rights, Guest, at_next, put_loaded, store_registers, Choice}
+use Rattle.reg_map.specs.Prelude.{location_range, AreInRange}
+use Rattle.symbolic_tiles.specs.Prelude.{AreWellFormed, SymbolicState, execute_ops, can_load, can_store, IsTileOf, room_of}
 use Rattle.base_mem.specs.Addresses.{immediate_address}
 use Rattle.base_mem.specs.Multiple.{one_load, lmw_ops, one_store, stmw_ops}
 use Rattle.symbolic_tiles.proofs.Memory.{update_same, update_other, store_same}
 use Rattle.symbolic_tiles.proofs.Places.{each_of}
-use Rattle.symbolic_tiles.specs.SymbolicState.{SymbolicState, execute_ops, can_load, can_store}
 use Rattle.symbolic_tiles.proofs.Shows.{bytes_held}
-use Rattle.symbolic_tiles.specs.Tiles.{IsTileOf, room_of}
 use Rattle.symbolic_tiles.proofs.Done.{state_of, IsStateOf}
 use Rattle.symbolic_tiles.proofs.TileOf.{ops_are_tile, then_more}
 use Rattle.symbolic_tiles.proofs.Small.{both_true}

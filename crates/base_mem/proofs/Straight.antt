@@ -1,7 +1,7 @@
 -- Built instructions are no flow words.
 use Rattle.std.proofs.lemmas.Bool.{false≢true}
 use Rattle.std.proofs.Common.{refl}
-use Rattle.ppc_isa.specs.declared.instr.Instr.TheVariants.{Branch, BranchConditional, BranchRegister, Trap, TrapImmediate, SystemCall}
+use Rattle.machines.specs.Prelude.{Branch, BranchConditional, BranchRegister, Trap, TrapImmediate, SystemCall}
 use Rattle.base_mem.specs.Laws.{BuiltAreStraight}
 
 pub built_are_straight : BuiltAreStraight

@@ -2,7 +2,7 @@
 use Rattle.std.proofs.lemmas.Bool.{false≢true}
 use Rattle.std.proofs.Common.{arith}
 use Rattle.ppc_isa.specs.declared.instr.Instr.TheVariants as instr
-use Rattle.ppc_isa.specs.declared.instr.MultipleOp.TheVariants.{Lmw, Stmw}
+use Rattle.machines.specs.Prelude.{Lmw, Stmw}
 use Rattle.symbolic_tiles.proofs.Placeable.{ops_placeable}
 use Rattle.symbolic_tiles.proofs.Lengths.{ops_short, few_ops}
 use Rattle.base_mem.specs.Tile.{symbolic_tile}

@@ -1,8 +1,6 @@
 -- The address of an access goes into edx (this project's own).
 use Rattle.std.specs.Prelude.{ℕ, Bool, true, false, List, [], ◌∷◌}
-use Rattle.word_kit.specs.Words.{sign_extended}
-use Rattle.ia_codec.specs.declared.op.AluOp.TheVariants.{Add}
-use Rattle.ia_codec.specs.Registers.{edx}
+use Rattle.machines.specs.Prelude.{sign_extended, Add, edx}
 use Rattle.symbolic_tiles.specs.declared.symbolic_op.SymbolicOperand.TheVariants.{Location}
 use Rattle.symbolic_tiles.specs.declared.symbolic_op.SymbolicOp.{SymbolicOp}
 use Rattle.symbolic_tiles.specs.declared.symbolic_op.SymbolicOp.TheVariants.{Mov, MovImmediate, Alu, AluImmediate}

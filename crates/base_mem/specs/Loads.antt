@@ -1,16 +1,6 @@
 -- The tiles of loads behind the address (this project's own). The guest's numbers have their highest byte first.
 use Rattle.std.specs.Prelude.{ℕ, Bool, true, false, List, [], ◌∷◌}
-use Rattle.ppc_isa.specs.declared.instr.LoadOp.{LoadOp}
-use Rattle.ppc_isa.specs.declared.instr.LoadOp.TheVariants.{Lwz, Lbz, Lhz, Lha}
-use Rattle.ppc_isa.specs.declared.instr.LoadUpdateOp.{LoadUpdateOp}
-use Rattle.ppc_isa.specs.declared.instr.LoadUpdateOp.TheVariants.{Lwzu, Lbzu, Lhzu, Lhau}
-use Rattle.ppc_isa.specs.declared.instr.LoadIndexedOp.{LoadIndexedOp}
-use Rattle.ppc_isa.specs.declared.instr.LoadIndexedOp.TheVariants.{Lwzx, Lbzx, Lhzx, Lhax, Lwbrx, Lhbrx}
-use Rattle.ppc_isa.specs.declared.instr.LoadIndexedUpdateOp.{LoadIndexedUpdateOp}
-use Rattle.ppc_isa.specs.declared.instr.LoadIndexedUpdateOp.TheVariants.{Lwzux, Lbzux, Lhzux, Lhaux}
-use Rattle.ia_codec.specs.declared.op.ShiftOp.{ShiftOp}
-use Rattle.ia_codec.specs.declared.op.ShiftOp.TheVariants.{Shr, Sar}
-use Rattle.ia_codec.specs.Registers.{eax, edx}
+use Rattle.machines.specs.Prelude.{LoadOp, Lwz, Lbz, Lhz, Lha, LoadUpdateOp, Lwzu, Lbzu, Lhzu, Lhau, LoadIndexedOp, Lwzx, Lbzx, Lhzx, Lhax, Lwbrx, Lhbrx, LoadIndexedUpdateOp, Lwzux, Lbzux, Lhzux, Lhaux, ShiftOp, Shr, Sar, eax, edx}
 use Rattle.symbolic_tiles.specs.declared.symbolic_op.AccessSize.TheVariants.{Byte, Half, Word}
 use Rattle.symbolic_tiles.specs.declared.symbolic_op.SymbolicOp.{SymbolicOp}
 use Rattle.symbolic_tiles.specs.declared.symbolic_op.SymbolicOp.TheVariants.{Put, ShiftBy, SwapBytes, Load}

@@ -1,6 +1,6 @@
 -- The tiles of lmw and stmw behind the address (this project's own): register by register, four bytes each.
 use Rattle.std.specs.Prelude.{ℕ, zero, suc, ◌-◌, ◌*◌, List, [], ◌∷◌, ◌++◌}
-use Rattle.ia_codec.specs.Registers.{eax, edx}
+use Rattle.machines.specs.Prelude.{eax, edx}
 use Rattle.symbolic_tiles.specs.declared.symbolic_op.SymbolicOperand.TheVariants.{Location}
 use Rattle.symbolic_tiles.specs.declared.symbolic_op.AccessSize.TheVariants.{Word}
 use Rattle.symbolic_tiles.specs.declared.symbolic_op.SymbolicOp.{SymbolicOp}

@@ -1,15 +1,6 @@
 -- The tiles of stores behind the address (this project's own). The guest's numbers have their highest byte first.
 use Rattle.std.specs.Prelude.{ℕ, Bool, true, false, List, [], ◌∷◌}
-use Rattle.ppc_isa.specs.declared.instr.StoreOp.{StoreOp}
-use Rattle.ppc_isa.specs.declared.instr.StoreOp.TheVariants.{Stw, Stb, Sth}
-use Rattle.ppc_isa.specs.declared.instr.StoreUpdateOp.{StoreUpdateOp}
-use Rattle.ppc_isa.specs.declared.instr.StoreUpdateOp.TheVariants.{Stwu, Stbu, Sthu}
-use Rattle.ppc_isa.specs.declared.instr.StoreIndexedOp.{StoreIndexedOp}
-use Rattle.ppc_isa.specs.declared.instr.StoreIndexedOp.TheVariants.{Stwx, Stbx, Sthx, Stwbrx, Sthbrx}
-use Rattle.ppc_isa.specs.declared.instr.StoreIndexedUpdateOp.{StoreIndexedUpdateOp}
-use Rattle.ppc_isa.specs.declared.instr.StoreIndexedUpdateOp.TheVariants.{Stwux, Stbux, Sthux}
-use Rattle.ia_codec.specs.declared.op.ShiftOp.TheVariants.{Shr}
-use Rattle.ia_codec.specs.Registers.{eax, edx}
+use Rattle.machines.specs.Prelude.{StoreOp, Stw, Stb, Sth, StoreUpdateOp, Stwu, Stbu, Sthu, StoreIndexedOp, Stwx, Stbx, Sthx, Stwbrx, Sthbrx, StoreIndexedUpdateOp, Stwux, Stbux, Sthux, Shr, eax, edx}
 use Rattle.symbolic_tiles.specs.declared.symbolic_op.SymbolicOperand.TheVariants.{Location}
 use Rattle.symbolic_tiles.specs.declared.symbolic_op.AccessSize.TheVariants.{Byte, Half, Word}
 use Rattle.symbolic_tiles.specs.declared.symbolic_op.SymbolicOp.{SymbolicOp}

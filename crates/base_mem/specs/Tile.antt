@@ -1,12 +1,9 @@
 -- The tile of each instruction with an access (this project's own): ops that do to the places of its locations, under any
 -- register map, and to the guest's memory, what the instruction does to the locations and the memory.
 use Rattle.std.specs.Prelude.{Bool, ◌≡◌, ◌-◌, true, false, List, [], ◌++◌, ◌==◌}
-use Rattle.ppc_isa.specs.declared.map.Map.{Map}
-use Rattle.ppc_isa.specs.declared.instr.Instr.{Instr}
-use Rattle.ppc_isa.specs.declared.instr.MultipleOp.TheVariants.{Lmw, Stmw}
+use Rattle.machines.specs.Prelude.{Map, Instr, Lmw, Stmw, Op}
 use Rattle.symbolic_tiles.specs.declared.symbolic_op.SymbolicOp.{SymbolicOp}
-use Rattle.symbolic_tiles.specs.SymbolicOps.{ops_of}
-use Rattle.ia_codec.specs.declared.op.Op.{Op}
+use Rattle.symbolic_tiles.specs.Prelude.{ops_of}
 use Rattle.ppc_isa.specs.declared.instr.Instr.TheVariants as instr
 use Rattle.base_mem.specs.Addresses.{immediate_address, indexed_address}
 use Rattle.base_mem.specs.Loads.{load_ops, load_update_ops, load_indexed_ops, load_indexed_update_ops, put_ops}

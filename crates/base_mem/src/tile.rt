@@ -1,10 +1,9 @@
 //! The tile of each instruction.
 
 ghost use Rattle.std.specs.Prelude.{◌≡◌, ◌<◌, ◌≤◌, ◌++◌, IsTrue, ◌↔◌, IfOk, All, length};
-ghost use Rattle.ppc_isa.specs.Legal.{IsLegal};
-ghost use Rattle.reg_map.specs.Place.{IsMap};
-ghost use Rattle.reg_map.specs.Relocated.{IsPlaceable};
-ghost use Rattle.symbolic_tiles.specs.Row.{DoesRowAt};
+ghost use Rattle.machines.specs.Prelude.{IsLegal};
+ghost use Rattle.reg_map.specs.Prelude.{IsMap, IsPlaceable};
+ghost use Rattle.symbolic_tiles.specs.Prelude.{DoesRowAt};
 ghost use Rattle.base_mem.specs.Tile.{IsBuilt, symbolic_tile as symbolic_tile_of, tile};
 
 use crate::addresses::{Ops, immediate_address, indexed_address};

@@ -7,11 +7,7 @@ use Rattle.std.proofs.lemmas.List.Elements.{All-from_get_or}
 use Rattle.std.proofs.lemmas.List.Filters.{length-filter_both}
 use Rattle.std.proofs.lemmas.List.FromFn.{length-range_with_len}
 use Rattle.std.proofs.lemmas.List.Sums.{sum_by-append, sum_by-le}
-use Rattle.block_find.specs.Blocks.{AreBlocksOf, past, start, count_of, alone, singles_of}
-use Rattle.block_find.specs.Laws.{block_at, word_count, HaveFewWords, AllHaveFewWords}
-use Rattle.block_find.specs.declared.block.Block.{Block}
-use Rattle.block_find.specs.declared.block.Blocks.{Blocks}
-use Rattle.block_find.specs.declared.spans.Run.{Run}
+use Rattle.block_find.specs.Prelude.{AreBlocksOf, past, start, count_of, alone, singles_of, block_at, word_count, HaveFewWords, AllHaveFewWords, Block, Blocks, Run}
 use Rattle.block_find.proofs.SingleRuns.{run_at}
 use Rattle.block_find.proofs.Standing as stand
 use Rattle.block_find.proofs.Standing.{count_is}

@@ -5,8 +5,8 @@ use Rattle.std.proofs.lemmas.Bool.{cases_lt}
 use Rattle.std.proofs.lemmas.Bool.Decides.{eqb_tells}
 use Rattle.std.proofs.lemmas.List.{get_or_append_left, get_or_push, get_or_default, get_or_past}
 use Rattle.std.proofs.Math.ListN.{length-append}
-use Rattle.block_find.specs.declared.spans.Run.{Run}
-use Rattle.block_find.specs.Blocks.{most, IsIn, MayEnd, flow, leader, full, over, IsBlock, zeroth, behind_flow, behind_full, AreLeaders, AreBlocks, AreAllBlocks, Divide, IsInRun, past, start, count_of}
+use Rattle.block_find.specs.Prelude.{Run, most, IsIn, MayEnd, flow, leader, full, over, IsBlock, behind_full, AreLeaders, AreBlocks, AreAllBlocks, Divide, IsInRun, past, start, count_of}
+use Rattle.block_find.specs.Blocks.{zeroth, behind_flow}
 
 -- between a leader and the next one, or the end of the words, stands one block
 module _ (first entry : ℕ) (words : List ℕ) (leads : List Bool) (leaders : AreLeaders first entry words (IsIn leads)) (at e : ℕ) (lead : IsIn leads at) (lt : at < e) (le : e ≤ length words)

@@ -6,11 +6,9 @@ use Rattle.std.proofs.lemmas.Bool.{cases_lt}
 use Rattle.std.proofs.lemmas.List.FromFn.{get_or-range_with_len, length-range_with_len}
 use Rattle.std.proofs.lemmas.List.Elements.{All-from_get_or, All-filter, All-map}
 use Rattle.std.proofs.lemmas.Grind.{same_number_lists}
-use Rattle.space.specs.declared.program.Program.{Program}
+use Rattle.machines.specs.Prelude.{Program}
 use Rattle.code_words.specs.Words.{HasWords, first_of}
-use Rattle.block_find.specs.Blocks.{IsIn, AreAllBlocks, IsWithin, AreBlocksOf, past, alone, singles_of}
-use Rattle.block_find.specs.declared.spans.Run.{Run}
-use Rattle.block_find.specs.declared.block.Blocks.{Blocks}
+use Rattle.block_find.specs.Prelude.{IsIn, AreAllBlocks, IsWithin, AreBlocksOf, past, alone, singles_of, Run, Blocks}
 
 pub runs_within : (words : List ℕ) (leads : List Bool) (runs : List Run) → AreAllBlocks words (IsIn leads) runs → All (IsWithin (length words)) runs
 runs_within words leads runs all = All-from_get_or (IsWithin (length words)) runs (past (length words)) (λ i lt. (all.are.ends i lt).within)

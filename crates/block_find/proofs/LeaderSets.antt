@@ -1,6 +1,7 @@
 -- There is one set of leaders.
 use Rattle.std.proofs.Common.{ℕ, zero, suc, ◌+◌, ◌<◌, ◌≤◌, ◌↔◌, List, Bool, refl, arith}
-use Rattle.block_find.specs.Blocks.{IsIn, MayEnd, flow, leader, full, over, IsBlock, Begins, zeroth, starts, named, behind_flow, behind_full, AreLeaders}
+use Rattle.block_find.specs.Prelude.{IsIn, MayEnd, flow, leader, full, over, IsBlock, Begins, behind_full, AreLeaders}
+use Rattle.block_find.specs.Blocks.{zeroth, starts, named, behind_flow}
 
 module _ (first e : ℕ) (words : List ℕ) where
   -- where two sets have the same members below k, a word is a leader by both

@@ -4,9 +4,8 @@ use Rattle.std.specs.Prelude.{slice_index_or}
 use Rattle.std.proofs.lemmas.Bool.{cases_lt}
 use Rattle.std.proofs.lemmas.Bool.Decides.{eqb_tells}
 use Rattle.std.proofs.lemmas.List.{get_or_past}
-use Rattle.block_find.specs.Branches.{IsFlow, Names}
-use Rattle.block_find.specs.Blocks.{IsIn}
-use Rattle.block_find.specs.Marks.{Marks, zeroth, starts, named, behind_flow, AreMarked, Gains}
+use Rattle.block_find.specs.Prelude.{IsFlow, Names, IsIn, Marks, AreMarked, Gains}
+use Rattle.block_find.specs.Marks.{zeroth, starts, named, behind_flow}
 
 pub in_within : (xs : List Bool) (k : ℕ) → IsIn xs k → k < length xs
 in_within xs k is = elim (cases_lt k (length xs)) [

@@ -1,10 +1,9 @@
 -- What the instruction of a word says of where control goes.
 use Rattle.std.proofs.Common.{◌≡◌, ◌≢◌, ℕ, ◌<◌, ◌↔◌, Bool, Option, Some, None, MatchOption, List, length, sym, ◌∙◌, ap, subst, arith}
 use Rattle.std.specs.Prelude.{IsTrue, slice_index}
-use Rattle.ppc_isa.specs.declared.instr.Instr.{Instr}
-use Rattle.ppc_isa.specs.Legal.{IsWordOf}
+use Rattle.machines.specs.Prelude.{Instr, IsWordOf}
 use Rattle.row_laws.specs.FlowWords.{is_flow}
-use Rattle.block_find.specs.Branches.{IsFlowWord, legal, illegal, Names, address_of, named_address}
+use Rattle.block_find.specs.Prelude.{IsFlowWord, legal, illegal, Names, address_of, named_address}
 
 pub same_of : (word : ℕ) (i j : Instr) → ((k : Instr) → IsWordOf word k → Some i ≡ Some k) → IsWordOf word j → i ≡ j
 same_of word i j only is = let e : Some i ≡ Some j = only j is in cc

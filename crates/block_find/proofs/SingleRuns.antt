@@ -5,8 +5,7 @@ use Rattle.std.proofs.lemmas.Bool.{cases_lt}
 use Rattle.std.proofs.lemmas.Bool.Decides.{eqb_tells}
 use Rattle.std.proofs.lemmas.List.{get_or_append_left, get_or_push}
 use Rattle.std.proofs.Math.ListN.{length-append}
-use Rattle.block_find.specs.Blocks.{IsIn, past, alone, singles_of}
-use Rattle.block_find.specs.declared.spans.Run.{Run}
+use Rattle.block_find.specs.Prelude.{IsIn, past, alone, singles_of, Run}
 use Rattle.block_find.proofs.SingleWords.{single_more, single_less}
 
 abbrev pub run_at : List Run → ℕ → Run

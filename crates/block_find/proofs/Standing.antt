@@ -4,12 +4,8 @@ use Rattle.std.specs.Prelude.{slice_index_or}
 use Rattle.std.proofs.lemmas.Bool.{cases_lt}
 use Rattle.std.proofs.lemmas.List.{get_or_append_left, length-map, get_or-append_right, get_or-map, get_or_past, get_or-take, get_or-drop, length-take, length-drop}
 use Rattle.std.proofs.Math.ListN.{length-append}
-use Rattle.block_find.specs.Branches.{IsFlow, Names, address_of}
-use Rattle.block_find.specs.Blocks.{most, IsIn, flow, named, AreBlocksOf, past, start, block_of, singles_of}
-use Rattle.block_find.specs.Laws.{block_at, all_blocks, IsBlockAt, BeginsOne, BeginsLeader, EachIsBlock, EachBeginsOne, LeadsToLeaders}
-use Rattle.block_find.specs.declared.block.Block.{Block}
-use Rattle.block_find.specs.declared.block.Blocks.{Blocks}
-use Rattle.block_find.specs.declared.spans.Run.{Run}
+use Rattle.block_find.specs.Prelude.{IsFlow, Names, address_of, most, IsIn, flow, AreBlocksOf, past, start, block_of, singles_of, block_at, all_blocks, IsBlockAt, BeginsOne, BeginsLeader, EachIsBlock, EachBeginsOne, LeadsToLeaders, Block, Blocks, Run}
+use Rattle.block_find.specs.Blocks.{named}
 use Rattle.block_find.proofs.SingleRuns.{run_at, AreSingles, are_singles}
 
 -- a run as a block

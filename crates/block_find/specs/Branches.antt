@@ -1,10 +1,7 @@
 -- Where control goes from a code word, as far as the word says: Power ISA Book I, 2.4 (branches). The code words stand one
 -- behind another from the address `first` on, and are named by their places, counted from 0.
 use Rattle.std.specs.Prelude.{◌≡◌, ℕ, ◌+◌, ◌*◌, IsTrue, List, Option, Some, None, slice_index}
-use Rattle.ppc_isa.specs.declared.instr.Instr.{Instr}
-use Rattle.ppc_isa.specs.declared.instr.Instr.TheVariants.{Branch, BranchConditional}
-use Rattle.ppc_isa.specs.Legal.{IsWordOf}
-use Rattle.machines.specs.Guest.{branch_target}
+use Rattle.machines.specs.Prelude.{Instr, Branch, BranchConditional, IsWordOf, branch_target}
 use Rattle.row_laws.specs.FlowWords.{is_flow}
 
 -- a word with which a block ends: one of the flow words, or an illegal word

@@ -1,7 +1,6 @@
 //! Where branches lead.
 ghost use Rattle.std.specs.Prelude.{◌≡◌, ◌≢◌, ◌≤◌, ◌<◌, ◌+◌, ◌*◌, ◌^◌, ℕ, Bool, MatchOption, length};
-ghost use Rattle.ppc_isa.specs.Legal.{IsLegal};
-ghost use Rattle.machines.specs.Guest.{branch_target};
+ghost use Rattle.machines.specs.Prelude.{IsLegal, branch_target};
 ghost use Rattle.block_find.specs.Branches.{Names, address_of as address, named_address as named_address_of};
 
 use crate::code::Code;

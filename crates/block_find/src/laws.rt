@@ -1,6 +1,6 @@
 //! Laws of blocks. Each is the contract of a function that does nothing.
 ghost use Rattle.std.specs.Prelude.{◌≡◌, ℕ, ◌↔◌, List, Bool};
-ghost use Rattle.space.specs.declared.program.Program.{Program};
+ghost use Rattle.machines.specs.Prelude.{Program};
 ghost use Rattle.code_words.specs.Words.{HasWords};
 ghost use Rattle.block_find.specs.Blocks.{AreLeaders, IsIn};
 ghost use Rattle.block_find.specs.Laws.{AllHaveFewWords, EachBeginsOne, EachIsBlock, LeadsToLeaders};

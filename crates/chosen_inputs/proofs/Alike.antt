@@ -5,14 +5,8 @@ use Rattle.std.proofs.lemmas.List.{get_or_default, get_or_append_left, append_as
 use Rattle.std.proofs.lemmas.List.Elements.{All-from_get_or, All-get_or, All-push}
 use Rattle.std.proofs.Math.Seq.{get_or-append_seam}
 use Rattle.std.proofs.Math.Decide.{dec_lt}
-use Rattle.word_kit.specs.Words.{same}
-use Rattle.word_kit.specs.Bits.{bit_of}
-use Rattle.circuit.specs.Literals.{lit_truth, lit_reach, word_value, word_reach_below}
-use Rattle.circuit.specs.Nodes.{AllAgree, Says}
-use Rattle.circuit.specs.Extensions.{GatesAgree, GateSays}
-use Rattle.circuit.specs.WordsMade.{at}
-use Rattle.circuit.specs.GatesRange.{word_below}
-use Rattle.circuit.specs.Miters.{pair_at, AreOwned, CanDiffer}
+use Rattle.word_kit.specs.Prelude.{same, bit_of}
+use Rattle.circuit.specs.Prelude.{lit_truth, lit_reach, word_value, word_reach_below, AllAgree, Says, GatesAgree, GateSays, at, word_below, pair_at, AreOwned, CanDiffer}
 use Rattle.circuit.specs.declared.literals.Lit.{Lit}
 use Rattle.circuit.specs.declared.literals.Lit.TheVariants.{Const}
 use Rattle.circuit.specs.declared.nodes.Node.{Node}

@@ -6,10 +6,8 @@ use Rattle.std.proofs.lemmas.Bool.Decides.{nat_tests}
 use Rattle.std.proofs.Math.Decide.{dec_lt, dec_le}
 use Rattle.std.proofs.Math.Pow.{pow_mono}
 use Rattle.std.proofs.Math.Nat.{div-eq_of_lt}
-use Rattle.word_kit.specs.Bits.{bit_of}
-use Rattle.circuit.specs.Literals.{lit_truth, word_value}
-use Rattle.circuit.specs.Nodes.{IsInput}
-use Rattle.circuit.specs.WordsMade.{at, word_of, lit_bits}
+use Rattle.word_kit.specs.Prelude.{bit_of}
+use Rattle.circuit.specs.Prelude.{lit_truth, word_value, IsInput, at, word_of, lit_bits}
 use Rattle.circuit.specs.declared.literals.Lit.{Lit}
 use Rattle.circuit.specs.declared.literals.Lit.TheVariants.{Const, Var}
 use Rattle.circuit.specs.declared.nodes.Node.{Node}

@@ -2,8 +2,7 @@
 use Rattle.std.specs.Prelude.{◌≡◌, ◌≤◌, ◌<◌, ◌+◌, false, ℕ, Bool, List, length}
 use Rattle.std.proofs.Common.{refl, ◌∙◌, arith}
 use Rattle.std.proofs.lemmas.Option.{slice_get_within}
-use Rattle.circuit.specs.Nodes.{AllAgree, IsInput}
-use Rattle.circuit.specs.Extensions.{Extends}
+use Rattle.circuit.specs.Prelude.{AllAgree, IsInput, Extends}
 use Rattle.circuit.specs.declared.nodes.Node.{Node}
 use Rattle.circuit.specs.declared.nodes.Node.TheVariants.{Input}
 

@@ -1,6 +1,6 @@
 -- The variables of new inputs.
 use Rattle.std.specs.Prelude.{ℕ, zero, suc, ◌+◌, false, if◌then◌else◌, nat_lt, List, [], ◌∷◌, ◌++◌, length, pos}
-use Rattle.circuit.specs.WordsMade.{word_of}
+use Rattle.circuit.specs.Prelude.{word_of}
 use Rattle.circuit.specs.declared.literals.Lit.{Lit}
 use Rattle.circuit.specs.declared.literals.Lit.TheVariants.{Const, Var}
 use Rattle.circuit.specs.declared.nodes.Node.{Node}

@@ -1,8 +1,7 @@
 -- Pairs of literals that are to be the same.
 use Rattle.std.specs.Prelude.{◌≡◌, ℕ, zero, suc, Bool, List, [], ◌∷◌, ◌++◌}
 use Rattle.std.specs.List.{All}
-use Rattle.circuit.specs.Literals.{lit_truth}
-use Rattle.circuit.specs.WordsMade.{at}
+use Rattle.circuit.specs.Prelude.{lit_truth, at}
 use Rattle.circuit.specs.declared.literals.Lit.{Lit}
 
 -- under an assignment both literals have the same truth

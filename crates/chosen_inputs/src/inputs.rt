@@ -1,8 +1,7 @@
 //! Inputs.
 
 ghost use Rattle.std.specs.Prelude.{◌≡◌, ◌≤◌, ◌<◌, ◌+◌, ◌^◌, ℕ, Bool, IfOk, OnOk, length, pos};
-ghost use Rattle.circuit.specs.Literals.{lit_truth, lit_reach, word_value, word_reach_below};
-ghost use Rattle.circuit.specs.Frame.{IsLater};
+ghost use Rattle.circuit.specs.Prelude.{lit_truth, lit_reach, word_value, word_reach_below, IsLater};
 ghost use Rattle.chosen_inputs.specs.Inputs.{with_inputs, word_of_inputs};
 ghost use Rattle.chosen_inputs.specs.Choices.{CanChoose};
 

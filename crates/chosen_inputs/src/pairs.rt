@@ -1,13 +1,8 @@
 //! Pairs of literals that are to be the same.
 
 ghost use Rattle.std.specs.Prelude.{◌≡◌, ◌↔◌, ◌≤◌, ◌++◌, ◌∷◌, [], ℕ, Bool, IfOk, OnOk, length};
-ghost use Rattle.word_kit.specs.Formulas.{IsFormula};
-ghost use Rattle.circuit.specs.Literals.{lit_truth, lit_reach, word_value, word_reach_below};
-ghost use Rattle.circuit.specs.Nodes.{AllAgree};
-ghost use Rattle.circuit.specs.Frame.{IsLater};
-ghost use Rattle.circuit.specs.Extensions.{GatesAgree};
-ghost use Rattle.circuit.specs.Clauses.{AreClausesFor};
-ghost use Rattle.circuit.specs.Miters.{differences_made, AreOwned, CanDiffer, final_clause, IsSatisfiable};
+ghost use Rattle.word_kit.specs.Prelude.{IsFormula};
+ghost use Rattle.circuit.specs.Prelude.{lit_truth, lit_reach, word_value, word_reach_below, AllAgree, IsLater, GatesAgree, AreClausesFor, differences_made, AreOwned, CanDiffer, final_clause, IsSatisfiable};
 ghost use Rattle.chosen_inputs.specs.Pairs.{AreAlike, bit_pairs};
 
 use circuit::{Gates, Lit, Node};

@@ -1,8 +1,7 @@
 -- Clauses that are appended one after another.
 use Rattle.std.proofs.Common.{◌≡◌, ℕ, ◌+◌, ◌<◌, ◌≤◌, Bool, true, false, cond, List, [], ◌∷◌, ◌++◌, Result, Ok, Err, OnOk, refl, sym, ◌∙◌, ap, subst, length, drop, append_assoc, append-nil, ℤ, pos, get_or}
 use Rattle.std.proofs.lemmas.List.{drop_more, drop_all}
-use Rattle.circuit.specs.Clauses.{gate_clauses, chosen_clauses}
-use Rattle.circuit.specs.declared.nodes.Node.{Node}
+use Rattle.circuit.specs.Prelude.{gate_clauses, chosen_clauses, Node}
 
 pub two_alike : {T : Type 0} {a b x y : T} → a ≡ x → b ≡ y → a ∷ b ∷ [] ≡ x ∷ y ∷ []
 two_alike e f = cc

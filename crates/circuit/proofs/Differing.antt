@@ -5,18 +5,9 @@ use Rattle.std.proofs.lemmas.List.{get_or_default}
 use Rattle.std.proofs.lemmas.Option.{slice_get_within, slice_get-get_or}
 use Rattle.std.proofs.lemmas.List.Elements.{All-head, All-cons, All-nil, All-append}
 use Rattle.std.proofs.lemmas.List.Folds.{Any-from_list_any, list_any_at}
-use Rattle.word_kit.specs.Formulas.{Satisfies, literal_truth, variable}
-use Rattle.circuit.specs.Literals.{signed_reach, lit_truth, lit_reach, is_true, signed_variable}
-use Rattle.circuit.specs.Nodes.{node_reach, IsOrdered}
-use Rattle.circuit.specs.Extensions.{GateSays, GatesAgree}
-use Rattle.circuit.specs.WordsMade.{at}
-use Rattle.circuit.specs.Clauses.{inputs_of, IsReached, chosen_clauses, AreClausesFor}
+use Rattle.word_kit.specs.Prelude.{Satisfies, literal_truth, variable}
+use Rattle.circuit.specs.Prelude.{signed_reach, lit_truth, lit_reach, is_true, signed_variable, node_reach, IsOrdered, GateSays, GatesAgree, at, inputs_of, IsReached, chosen_clauses, AreClausesFor, pair_at, AreOwned, differs, CanDiffer, final_clause, IsSatisfiable, Lit, Const, Var, Node, Input, And, Xor, Free}
 use Rattle.circuit.specs.Clauses.IsReached.{named, read}
-use Rattle.circuit.specs.Miters.{pair_at, AreOwned, differs, CanDiffer, final_clause, IsSatisfiable}
-use Rattle.circuit.specs.declared.literals.Lit.{Lit}
-use Rattle.circuit.specs.declared.literals.Lit.TheVariants.{Const, Var}
-use Rattle.circuit.specs.declared.nodes.Node.{Node}
-use Rattle.circuit.specs.declared.nodes.Node.TheVariants.{Input, And, Xor, Free}
 use Rattle.circuit.proofs.Extended.{SameBelow, lit_same, gate_truth, extended, extended_kept, extended_input, gates_extend}
 use Rattle.circuit.proofs.GateTruths.{gate_from_clauses, clauses_from_gate, chosen_out, chosen_in, satisfies_left, satisfies_right}
 

@@ -1,18 +1,8 @@
 -- Every choice of the inputs extends to an assignment that fits every node, from the first on.
 use Rattle.std.proofs.Common.{◌≡◌, ◌≢◌, ℕ, zero, suc, ◌+◌, ◌≤◌, Bool, false, cond, not, ◌&&◌, eqb, List, [], ◌∷◌, Some, refl, sym, ◌∙◌, ap, subst, arith, ℤ, pos, negsuc, slice_get, slice_index_or}
 use Rattle.std.proofs.lemmas.Bool.Decides.{nat_tests}
-use Rattle.word_kit.specs.Words.{same}
-use Rattle.word_kit.specs.Bits.{bit_of}
-use Rattle.word_kit.specs.Formulas.{literal_truth}
-use Rattle.circuit.specs.Literals.{signed_reach, lit_truth, lit_reach, word_value, word_reach_below}
-use Rattle.circuit.specs.Nodes.{Says, AllAgree, IsOrdered, node_reach, free_reach, free_value}
-use Rattle.circuit.specs.Extensions.{Extends, GateSays, GatesAgree}
-use Rattle.circuit.specs.declared.literals.Lit.{Lit}
-use Rattle.circuit.specs.declared.literals.Lit.TheVariants.{Const, Var}
-use Rattle.circuit.specs.declared.nodes.FreeWord.{FreeWord}
-use Rattle.circuit.specs.declared.nodes.FreeWord.TheVariants.{ProductLow, ProductHigh, Quotient, Remainder, DivideFaults}
-use Rattle.circuit.specs.declared.nodes.Node.{Node}
-use Rattle.circuit.specs.declared.nodes.Node.TheVariants.{Input, And, Xor, Free}
+use Rattle.word_kit.specs.Prelude.{same, bit_of, literal_truth}
+use Rattle.circuit.specs.Prelude.{signed_reach, lit_truth, lit_reach, word_value, word_reach_below, Says, AllAgree, IsOrdered, node_reach, free_reach, free_value, Extends, GateSays, GatesAgree, Lit, Const, Var, FreeWord, ProductLow, ProductHigh, Quotient, Remainder, DivideFaults, Node, Input, And, Xor, Free}
 use Rattle.circuit.proofs.Meanings.{word_is}
 use Rattle.circuit.proofs.Values.{word_reach-at}
 

@@ -1,9 +1,6 @@
 -- An assignment that gives products and divisions their values fits the gates.
 use Rattle.std.proofs.Common.{ℕ, ◌+◌, Bool, List}
-use Rattle.circuit.specs.Nodes.{AllAgree, Says}
-use Rattle.circuit.specs.Extensions.{GatesAgree, GateSays}
-use Rattle.circuit.specs.declared.nodes.Node.{Node}
-use Rattle.circuit.specs.declared.nodes.Node.TheVariants.{Input, And, Xor, Free}
+use Rattle.circuit.specs.Prelude.{AllAgree, Says, GatesAgree, GateSays, Node, Input, And, Xor, Free}
 
 node_fits : (n : Node) (b : Bool) (v : ℕ → Bool) → Says n b v → GateSays n b v
 node_fits (Input i) b v h = tt

@@ -3,16 +3,9 @@ use Rattle.std.proofs.Common.{inl, inr, ◌≡◌, ℕ, zero, suc, ◌+◌, ◌<
 use Rattle.std.specs.List.{All, Contains, list_any, filter_map}
 use Rattle.std.specs.Option.{IfSome}
 use Rattle.std.proofs.lemmas.List.Elements.{All-cons, All-nil, All-append, All-weaker, All-contains_itself}
-use Rattle.word_kit.specs.Formulas.{IsFormula, IsLiteral, variable}
+use Rattle.word_kit.specs.Prelude.{IsFormula, IsLiteral, variable}
 use Rattle.word_kit.specs.declared.formulas.Formula.{Formula}
-use Rattle.circuit.specs.Literals.{signed_reach, lit_reach, is_true, signed_variable}
-use Rattle.circuit.specs.Nodes.{IsOrdered, node_reach}
-use Rattle.circuit.specs.WordsMade.{at}
-use Rattle.circuit.specs.Clauses.{gate_clauses, chosen_clauses, AreClausesFor}
-use Rattle.circuit.specs.Miters.{final_clause}
-use Rattle.circuit.specs.declared.literals.Lit.{Lit}
-use Rattle.circuit.specs.declared.nodes.Node.{Node}
-use Rattle.circuit.specs.declared.nodes.Node.TheVariants.{Input, And, Xor, Free}
+use Rattle.circuit.specs.Prelude.{signed_reach, lit_reach, is_true, signed_variable, IsOrdered, node_reach, at, gate_clauses, chosen_clauses, AreClausesFor, final_clause, Lit, Node, Input, And, Xor, Free}
 use Rattle.circuit.proofs.GateTruths.{nonzero}
 use Rattle.circuit.proofs.Differing.{two_cases, variable_from, variable_reach, final_none, final_some}
 use Rattle.std.proofs.lemmas.Option.{slice_get_within}

@@ -4,14 +4,8 @@ use Rattle.std.specs.List.{Any, list_any}
 use Rattle.std.proofs.lemmas.List.{take_at, drop_at}
 use Rattle.std.proofs.lemmas.List.Elements.{All-head, All-tail, All-cons, All-nil, All-take, All-drop, All-append}
 use Rattle.std.proofs.lemmas.List.Folds.{Any-from_list_any, list_any-from_Any}
-use Rattle.word_kit.specs.Words.{same}
-use Rattle.word_kit.specs.Formulas.{Satisfies, literal_truth, variable}
-use Rattle.circuit.specs.Literals.{signed_reach}
-use Rattle.circuit.specs.Nodes.{node_reach}
-use Rattle.circuit.specs.Extensions.{GateSays}
-use Rattle.circuit.specs.Clauses.{gate_clauses, chosen_clauses}
-use Rattle.circuit.specs.declared.nodes.Node.{Node}
-use Rattle.circuit.specs.declared.nodes.Node.TheVariants.{Input, And, Xor, Free}
+use Rattle.word_kit.specs.Prelude.{same, Satisfies, literal_truth, variable}
+use Rattle.circuit.specs.Prelude.{signed_reach, node_reach, GateSays, gate_clauses, chosen_clauses, Node, Input, And, Xor, Free}
 
 not_not : (b : Bool) → b ≡ not (not b)
 not_not true = refl

@@ -1,13 +1,7 @@
 -- The nodes that are there stay where they are when differences are made.
 use Rattle.std.proofs.Common.{◌≡◌, ℕ, zero, suc, Bool, true, false, cond, List, Some, ℤ, pos, neg_ℤ, unsigned_abs, int_lt, slice_get, length}
 use Rattle.std.specs.Ordering.{int_eq}
-use Rattle.circuit.specs.Made.{BitMade, node_made, xor_node_made, xor_signed_made, xor_vars_made, xor_made}
-use Rattle.circuit.specs.WordsMade.{word_made}
-use Rattle.circuit.specs.Miters.{pair_at, differences_made}
-use Rattle.circuit.specs.declared.literals.Lit.{Lit}
-use Rattle.circuit.specs.declared.literals.Lit.TheVariants.{Const, Var}
-use Rattle.circuit.specs.declared.nodes.Node.{Node}
-use Rattle.circuit.specs.declared.nodes.Node.TheVariants.{Xor}
+use Rattle.circuit.specs.Prelude.{BitMade, node_made, xor_node_made, xor_signed_made, xor_vars_made, xor_made, word_made, pair_at, differences_made, Lit, Const, Var, Node, Xor}
 use Rattle.circuit.proofs.Kept.{slice_get-insert_key}
 
 abbrev pub Grown : List Node → List Node → Type 0

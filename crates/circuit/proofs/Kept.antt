@@ -8,16 +8,9 @@ use Rattle.std.proofs.Math.Decide.{dec_lt}
 use Rattle.std.specs.Prelude.{Result, Ok, Err, IfOk, OnErr}
 use Rattle.std.specs.List.{list_any, position_or_len}
 use Rattle.std.specs.Prelude.{OnOk, pos}
-use Rattle.circuit.specs.Made.{node_made}
-use Rattle.circuit.specs.Extensions.{GatesAgree}
-use Rattle.circuit.specs.declared.literals.Lit.{Lit}
-use Rattle.circuit.specs.declared.literals.Lit.TheVariants.{Var}
+use Rattle.circuit.specs.Prelude.{node_made, GatesAgree, Lit, Var, AllAgree, IsInput, IsOrdered, node_reach, told_place, free_count, is_free, MayUntie, Node, Input}
 use Rattle.indexmap.specs.IndexSet.{insert_key}
-use Rattle.circuit.specs.Nodes.{AllAgree, IsInput, IsOrdered, node_reach, told_place, free_count, is_free}
-use Rattle.circuit.specs.Frame.{MayUntie}
-use Rattle.circuit.specs.declared.nodes.Node.{Node}
-use Rattle.circuit.specs.declared.nodes.Node.TheVariants.{Input}
-use Rattle.word_kit.specs.Words.{one_if}
+use Rattle.word_kit.specs.Prelude.{one_if}
 
 pub slice_get-append : {T : Type 0} → (xs ys : List T) (k : ℕ) (x : T) → slice_get xs k ≡ Some x → slice_get (xs ++ ys) k ≡ Some x
 slice_get-append xs ys k x h =

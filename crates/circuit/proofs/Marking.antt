@@ -5,13 +5,9 @@ use Rattle.std.proofs.lemmas.Bool.{cases_eq}
 use Rattle.std.proofs.lemmas.Option.{slice_get_within, slice_get-get_or}
 use Rattle.std.proofs.lemmas.List.{take_more, take_all, drop_all, get_or_read, length-set, length-replicate, get_or-set_same}
 use Rattle.std.proofs.lemmas.List.Elements.{All-contains}
-use Rattle.word_kit.specs.Formulas.{variable}
-use Rattle.circuit.specs.Nodes.{node_reach, IsOrdered}
-use Rattle.circuit.specs.Clauses.{inputs_of, Names, IsReached}
+use Rattle.word_kit.specs.Prelude.{variable}
+use Rattle.circuit.specs.Prelude.{node_reach, IsOrdered, inputs_of, Names, IsReached, marked, Node, Input}
 use Rattle.circuit.specs.Clauses.IsReached.{named, read}
-use Rattle.circuit.specs.Marks.{marked}
-use Rattle.circuit.specs.declared.nodes.Node.{Node}
-use Rattle.circuit.specs.declared.nodes.Node.TheVariants.{Input}
 use Rattle.circuit.proofs.Differing.{input_reach, variable_reach}
 
 abbrev pub is_marked : List Bool → ℕ → Bool

@@ -7,19 +7,10 @@ use Rattle.std.proofs.Math.Seq.{get_or-append_seam}
 use Rattle.std.proofs.Math.Pow.{split}
 use Rattle.std.proofs.Math.Decide.{dec_lt, dec_le}
 use Rattle.std.proofs.lemmas.Bool.Decides.{nat_tests}
-use Rattle.word_kit.specs.Words.{one_if, same, complement, is_negative, signed, is_less}
-use Rattle.word_kit.specs.Bits.{bit_of, with_bit, of_bits, byte_of, joined, word_and, word_or, word_xor}
-use Rattle.circuit.specs.Literals.{lit_truth, lit_reach, word_value, word_reach_below}
-use Rattle.circuit.specs.Made.{opposite}
-use Rattle.circuit.specs.WordsMade.{at, word_of, lit_bits, not_bits, byte_bits, join_bits, moved_by, moved, top_flipped, stage_made, shift_made}
-use Rattle.circuit.specs.declared.literals.Lit.{Lit}
-use Rattle.circuit.specs.declared.literals.Lit.TheVariants.{Const, Var}
-use Rattle.circuit.specs.declared.wiring.Turn.{Turn}
-use Rattle.circuit.specs.declared.wiring.Turn.TheVariants.{Left, Right, Arith, Rotate}
+use Rattle.word_kit.specs.Prelude.{one_if, same, complement, is_negative, signed, is_less, bit_of, with_bit, of_bits, byte_of, joined, word_and, word_or, word_xor}
+use Rattle.circuit.specs.Prelude.{lit_truth, lit_reach, word_value, word_reach_below, opposite, at, word_of, lit_bits, not_bits, byte_bits, join_bits, moved_by, moved, top_flipped, stage_made, shift_made, Lit, Const, Var, Turn, Left, Right, Arith, Rotate, turned_word, Node}
 use Rattle.circuit.proofs.Numbers.{of_bits-ext, of_bits-none, of_bits-split, of_bits-mod, of_bits-div, bit_is, bit_number, number_below, complement_is, choice_is}
 use Rattle.circuit.proofs.Shifts.{sign_is, moved_none, shift_is}
-use Rattle.circuit.specs.Turns.{turned_word}
-use Rattle.circuit.specs.declared.nodes.Node.{Node}
 use Rattle.circuit.proofs.Values.{word_value-lt, word_value-below, word_reach-at}
 
 pub word_is : (r : List Lit) (v : ℕ → Bool) (f : ℕ → Bool) → ((k : ℕ) → k < 32 → lit_truth (at r k) v ≡ f k) → word_value 32 r v ≡ of_bits f 32

@@ -5,8 +5,7 @@ use Rattle.std.proofs.Math.Arith.{mod-mul}
 use Rattle.std.proofs.Math.Pow.{pow_pos}
 use Rattle.std.proofs.lemmas.Nat.{pow-add, div-mul-add, div-add-mod' as div_mod}
 use Rattle.std.proofs.lemmas.Bool.Decides.{nat_tests}
-use Rattle.word_kit.specs.Words.{one_if, complement}
-use Rattle.word_kit.specs.Bits.{bit_of, of_bits}
+use Rattle.word_kit.specs.Prelude.{one_if, complement, bit_of, of_bits}
 use Rattle.word_kit.proofs.BitSums.{of_bits-is}
 
 pub of_bits-ext : (f g : ℕ → Bool) (n : ℕ) → ((k : ℕ) → k < n → f k ≡ g k) → of_bits f n ≡ of_bits g n

@@ -1,11 +1,7 @@
 -- What a final clause reaches tells the clauses.
 use Rattle.std.proofs.Common.{◌≡◌, ℕ, ◌+◌, ◌<◌, ◌^◌, Bool, true, false, List, [], ◌∷◌, ◌++◌, Option, None, Some, refl, sym, ◌∙◌, ap, subst, arith, length, ℤ}
 use Rattle.std.proofs.lemmas.Option.{slice_get_within}
-use Rattle.circuit.specs.Nodes.{IsOrdered}
-use Rattle.circuit.specs.Extensions.{GateSays}
-use Rattle.circuit.specs.Clauses.{chosen_clauses, AreClausesFor, is_gate, SatisfiesGates}
-use Rattle.circuit.specs.declared.nodes.Node.{Node}
-use Rattle.circuit.specs.declared.nodes.Node.TheVariants.{Input, And, Xor, Free}
+use Rattle.circuit.specs.Prelude.{IsOrdered, GateSays, chosen_clauses, AreClausesFor, is_gate, SatisfiesGates, Node, Input, And, Xor, Free}
 use Rattle.circuit.proofs.Extended.{gate_truth, extended, extended_input, gates_extend}
 use Rattle.circuit.proofs.GateTruths.{clauses_from_gate, chosen_in}
 use Rattle.circuit.proofs.Differing.{gate_says}

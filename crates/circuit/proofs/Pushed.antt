@@ -3,11 +3,7 @@ use Rattle.std.proofs.Common.{◌≡◌, ℕ, ◌+◌, ◌<◌, false, List, [],
 use Rattle.std.proofs.lemmas.List.{get_or_append_left}
 use Rattle.std.proofs.Math.Seq.{get_or-append_seam}
 use Rattle.std.proofs.Math.Decide.{dec_lt}
-use Rattle.circuit.specs.Made.{BitMade}
-use Rattle.circuit.specs.WordsMade.{at, word_made}
-use Rattle.circuit.specs.declared.literals.Lit.{Lit}
-use Rattle.circuit.specs.declared.literals.Lit.TheVariants.{Const}
-use Rattle.circuit.specs.declared.nodes.Node.{Node}
+use Rattle.circuit.specs.Prelude.{BitMade, at, word_made, Lit, Const, Node}
 
 -- what holds of each literal of a list, and of one more
 pub pushed : (P : ℕ → Lit → Type 0) (i : ℕ) (out : List Lit) (bit : Lit) → length out ≡ i → ((k : ℕ) → k < i → P k (at out k)) → P i bit → (k : ℕ) → k < i + 1 → P k (at (out ++ bit ∷ []) k)

@@ -2,16 +2,10 @@
 use Rattle.std.proofs.Common.{◌≡◌, ℕ, Bool, true, false, List, [], ◌∷◌, ◌&&◌, refl, arith}
 use mathlib.Core.Bool.{beq}
 use lib.Pointwise.{pointwise}
-use Rattle.circuit.specs.Nodes.{Says}
-use Rattle.circuit.specs.Extensions.{GateSays}
+use Rattle.circuit.specs.Prelude.{Says, GateSays, Lit, FreeWord, ProductLow, ProductHigh, Quotient, Remainder, DivideFaults, Node, Input, And, Xor, Free}
 use Rattle.circuit.specs.contracts.nodes.NodePartialEq.TheImpl.{ghosts}
 use Rattle.circuit.specs.contracts.nodes.FreeWordPartialEq.TheImpl.{ghosts as free_ghosts}
 use Rattle.circuit.specs.contracts.literals.LitPartialEq.TheImpl.{ghosts as lit_ghosts}
-use Rattle.circuit.specs.declared.literals.Lit.{Lit}
-use Rattle.circuit.specs.declared.nodes.FreeWord.{FreeWord}
-use Rattle.circuit.specs.declared.nodes.FreeWord.TheVariants.{ProductLow, ProductHigh, Quotient, Remainder, DivideFaults}
-use Rattle.circuit.specs.declared.nodes.Node.{Node}
-use Rattle.circuit.specs.declared.nodes.Node.TheVariants.{Input, And, Xor, Free}
 
 both_of : (a b : Bool) → (a && b) ≡ true → (a ≡ true) × (b ≡ true)
 both_of true true h = (refl, refl)

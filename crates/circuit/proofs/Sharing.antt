@@ -10,17 +10,10 @@ use Rattle.std.proofs.lemmas.List.Folds.{Any-from_list_any, list_any_at}
 use Rattle.std.proofs.lemmas.Map.Keys.{apart_from_distinct}
 use Rattle.std.proofs.Math.Seq.{get_or-append_seam}
 use Rattle.indexmap.specs.IndexSet.{insert_key}
-use Rattle.circuit.specs.Made.{node_made}
-use Rattle.circuit.specs.Sharing.{swapped_word, swapped, IsThere, IsApart, IsBegun, IsShared, IsOneOfEach}
+use Rattle.circuit.specs.Prelude.{node_made, swapped_word, swapped, IsThere, IsApart, IsBegun, IsShared, IsOneOfEach, Lit, Const, Var, FreeWord, ProductLow, ProductHigh, Quotient, Remainder, DivideFaults, Node, Input, And, Xor, Free}
 use Rattle.circuit.specs.contracts.nodes.NodePartialEq.TheImpl.{ghosts}
 use Rattle.circuit.specs.contracts.nodes.FreeWordPartialEq.TheImpl.{ghosts as free_ghosts}
 use Rattle.circuit.specs.contracts.literals.LitPartialEq.TheImpl.{ghosts as lit_ghosts}
-use Rattle.circuit.specs.declared.literals.Lit.{Lit}
-use Rattle.circuit.specs.declared.literals.Lit.TheVariants.{Const, Var}
-use Rattle.circuit.specs.declared.nodes.FreeWord.{FreeWord}
-use Rattle.circuit.specs.declared.nodes.FreeWord.TheVariants.{ProductLow, ProductHigh, Quotient, Remainder, DivideFaults}
-use Rattle.circuit.specs.declared.nodes.Node.{Node}
-use Rattle.circuit.specs.declared.nodes.Node.TheVariants.{Input, And, Xor, Free}
 use Rattle.circuit.proofs.Kept.{kept_at, slice_get-append}
 use Rattle.circuit.proofs.Same.{node_same}
 

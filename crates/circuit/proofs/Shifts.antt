@@ -3,12 +3,8 @@ use Rattle.std.proofs.Common.{◌≡◌, ℕ, zero, suc, ◌+◌, ◌-◌, ◌*�
 use Rattle.std.proofs.Math.Decide.{dec_lt}
 use Rattle.std.proofs.lemmas.Bool.{lt-ltb}
 use Rattle.std.proofs.lemmas.Bool.Decides.{nat_tests}
-use Rattle.word_kit.specs.Words.{one_if, complement, is_negative}
-use Rattle.word_kit.specs.Bits.{of_bits}
-use Rattle.circuit.specs.Turns.{turned_word}
-use Rattle.circuit.specs.WordsMade.{moved_by}
-use Rattle.circuit.specs.declared.wiring.Turn.{Turn}
-use Rattle.circuit.specs.declared.wiring.Turn.TheVariants.{Left, Right, Arith, Rotate}
+use Rattle.word_kit.specs.Prelude.{one_if, complement, is_negative, of_bits}
+use Rattle.circuit.specs.Prelude.{turned_word, moved_by, Turn, Left, Right, Arith, Rotate}
 use Rattle.circuit.proofs.Numbers.{of_bits-ext, of_bits-lt, of_bits-none, of_bits-split, of_bits-mod, of_bits-div, complement_is, shifted_mod, shifted_div}
 
 not_below : (a b : ℕ) → b ≤ a → ltb a b ≡ false

@@ -4,14 +4,8 @@ use Rattle.std.proofs.lemmas.List.{take_more_set, take_all}
 use Rattle.std.proofs.Math.Decide.{dec_le, dec_lt}
 use Rattle.std.proofs.Math.Nat.{pow-suc}
 use Rattle.std.proofs.lemmas.Bool.Decides.{nat_tests}
-use Rattle.word_kit.specs.Words.{one_if, same}
-use Rattle.word_kit.specs.Bits.{of_bits}
-use Rattle.circuit.specs.Literals.{lit_truth, lit_reach, word_value, word_reach_below}
-use Rattle.circuit.specs.Made.{BitMade, full_made, link_made}
-use Rattle.circuit.specs.WordsMade.{at, word_of, word_made, sum_made, equal_made}
-use Rattle.circuit.specs.declared.literals.Lit.{Lit}
-use Rattle.circuit.specs.declared.literals.Lit.TheVariants.{Const}
-use Rattle.circuit.specs.declared.nodes.Node.{Node}
+use Rattle.word_kit.specs.Prelude.{one_if, same, of_bits}
+use Rattle.circuit.specs.Prelude.{lit_truth, lit_reach, word_value, word_reach_below, BitMade, full_made, link_made, at, word_of, word_made, sum_made, equal_made, Lit, Const, Node}
 
 -- one more literal of a word that is taken from others
 pub wired_step : (f : ℕ → Lit) (i : ℕ) (out : List Lit) (b : Lit) → i < length out → take i out ≡ word_of f i → b ≡ f i → take (i + 1) (slice_set out i b) ≡ word_of f (i + 1)

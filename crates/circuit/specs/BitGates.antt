@@ -1,6 +1,6 @@
 -- What a gate that goes bit by bit means.
 use Rattle.std.specs.Prelude.{ℕ, Bool, cond, not, ◌&&◌, ◌||◌}
-use Rattle.word_kit.specs.Words.{same}
+use Rattle.word_kit.specs.Prelude.{same}
 use Rattle.circuit.specs.Literals.{lit_truth, lit_reach}
 use Rattle.circuit.specs.declared.words.BitGate.{BitGate}
 use Rattle.circuit.specs.declared.words.BitGate.TheVariants.{Both, Either, Differ, Choice}

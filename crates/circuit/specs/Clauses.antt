@@ -1,7 +1,7 @@
 -- The clauses of gates, and the gates that a clause reaches.
 use Rattle.std.specs.Prelude.{◌≡◌, ◌↔◌, ℕ, ◌+◌, Bool, true, false, IsTrue, cond, List, [], ◌∷◌, ◌++◌, Option, None, Some, slice_get, ℤ, pos, neg_ℤ}
 use Rattle.std.specs.List.{Any}
-use Rattle.word_kit.specs.Formulas.{variable, Satisfies}
+use Rattle.word_kit.specs.Prelude.{variable, Satisfies}
 use Rattle.circuit.specs.declared.nodes.Node.{Node}
 use Rattle.circuit.specs.declared.nodes.Node.TheVariants.{Input, And, Xor, Free}
 

@@ -1,7 +1,6 @@
 -- Assignments that fit a circuit.
 use Rattle.std.specs.Prelude.{◌≡◌, ℕ, ◌+◌, Bool, not, ◌&&◌, List, slice_get, Some}
-use Rattle.word_kit.specs.Words.{same}
-use Rattle.word_kit.specs.Formulas.{literal_truth}
+use Rattle.word_kit.specs.Prelude.{same, literal_truth}
 use Rattle.circuit.specs.Nodes.{AllAgree}
 use Rattle.circuit.specs.declared.nodes.Node.{Node}
 use Rattle.circuit.specs.declared.nodes.Node.TheVariants.{Input, And, Xor, Free}

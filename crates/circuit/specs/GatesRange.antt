@@ -2,8 +2,7 @@
 use Rattle.std.specs.Prelude.{◌≡◌, ℕ, zero, suc, ◌+◌, ◌*◌, ◌^◌, ◌<◌, Bool, true, false, List, slice_index_or}
 use Rattle.std.proofs.Common.{arith}
 use Rattle.std.proofs.Math.Nat.{pow-suc}
-use Rattle.word_kit.specs.Words.{one_if}
-use Rattle.word_kit.specs.Bits.{of_bits}
+use Rattle.word_kit.specs.Prelude.{one_if, of_bits}
 use Rattle.circuit.specs.Literals.{word_value, lit_truth}
 use Rattle.circuit.specs.declared.literals.Lit.{Lit}
 use Rattle.circuit.specs.declared.literals.Lit.TheVariants.{Const}

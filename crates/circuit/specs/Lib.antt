@@ -11,3 +11,4 @@ pub mod Extensions
 pub mod Clauses
 pub mod Marks
 pub mod Miters
+pub mod Prelude

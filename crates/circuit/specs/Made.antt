@@ -2,8 +2,7 @@
 use Rattle.std.specs.Prelude.{◌+◌, Bool, true, false, cond, not, List, ℤ, pos, ltb, unsigned_abs, neg_ℤ, int_lt}
 use Rattle.std.specs.Ordering.{int_eq}
 use Rattle.std.specs.List.{position_or_len}
-use Rattle.word_kit.specs.Words.{same}
-use Rattle.word_kit.specs.Operations.{FlagMade, SumMade}
+use Rattle.word_kit.specs.Prelude.{same, FlagMade, SumMade}
 use Rattle.indexmap.specs.IndexSet.{insert_key}
 use Rattle.circuit.specs.declared.literals.Lit.{Lit}
 use Rattle.circuit.specs.declared.literals.Lit.TheVariants.{Const, Var}

@@ -1,8 +1,7 @@
 -- The formula that says that a pair of literals differs.
 use Rattle.std.specs.Prelude.{◌≤◌, ◌<◌, length, slice_index_or, ℕ, Bool, false, not, cond, IsTrue, List, Option, None, Some, ℤ}
 use Rattle.std.specs.List.{Any, list_any, filter_map}
-use Rattle.word_kit.specs.Words.{same}
-use Rattle.word_kit.specs.Formulas.{Satisfies}
+use Rattle.word_kit.specs.Prelude.{same, Satisfies}
 use Rattle.circuit.specs.Literals.{lit_truth, lit_reach, is_true, signed_variable}
 use Rattle.circuit.specs.Extensions.{GatesAgree}
 use Rattle.circuit.specs.Made.{xor_made}

@@ -1,9 +1,6 @@
 -- What the variables of a circuit stand for: the variable k + 1 has the node at k.
 use Rattle.std.specs.Prelude.{◌≡◌, ◌≤◌, ℕ, ◌+◌, Bool, true, false, not, ◌&&◌, List, [], ◌∷◌, max, slice_get, Some}
-use Rattle.word_kit.specs.Words.{one_if, same}
-use Rattle.word_kit.specs.Bits.{bit_of}
-use Rattle.word_kit.specs.Products.{product_low, product_high, quotient, remainder, divide_faults}
-use Rattle.word_kit.specs.Formulas.{literal_truth}
+use Rattle.word_kit.specs.Prelude.{one_if, same, bit_of, product_low, product_high, quotient, remainder, divide_faults, literal_truth}
 use Rattle.circuit.specs.Literals.{signed_reach, word_value, word_reach_below}
 use Rattle.circuit.specs.declared.nodes.FreeWord.{FreeWord}
 use Rattle.circuit.specs.declared.nodes.FreeWord.TheVariants.{ProductLow, ProductHigh, Quotient, Remainder, DivideFaults}

@@ -1,6 +1,6 @@
 -- The shift or rotate of a word that each way to move its bits is.
 use Rattle.std.specs.Prelude.{ℕ}
-use Rattle.word_kit.specs.Bits.{shifted_left, shifted_right, shifted_arith, rotated}
+use Rattle.word_kit.specs.Prelude.{shifted_left, shifted_right, shifted_arith, rotated}
 use Rattle.circuit.specs.declared.wiring.Turn.{Turn}
 use Rattle.circuit.specs.declared.wiring.Turn.TheVariants.{Left, Right, Arith, Rotate}
 

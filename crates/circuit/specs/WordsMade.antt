@@ -1,8 +1,7 @@
 -- Words of literals, and which gates are made, bit by bit from the lowest, for each operation on words.
 use Rattle.std.specs.Prelude.{ℕ, zero, suc, ◌+◌, ◌-◌, ◌*◌, ◌^◌, Bool, true, false, cond, ltb, List, [], ◌∷◌, ◌++◌, slice_index_or, slice_set}
 use Rattle.std.specs.List.{list_any}
-use Rattle.word_kit.specs.Bits.{bit_of}
-use Rattle.word_kit.specs.Operations.{WordMade, SumMade, QuotientMade, Operations}
+use Rattle.word_kit.specs.Prelude.{bit_of, WordMade, SumMade, QuotientMade, Operations}
 use Rattle.circuit.specs.declared.literals.Lit.{Lit}
 use Rattle.circuit.specs.declared.literals.Lit.TheVariants.{Const}
 use Rattle.circuit.specs.declared.nodes.FreeWord.{FreeWord}

@@ -1,7 +1,7 @@
 //! What is made of a few literals: or, choice, sum, equality.
 
 ghost use Rattle.std.specs.Prelude.{◌≡◌, ◌≤◌, ◌+◌, ◌*◌, ℕ, Bool, IfOk, OnOk, ◌&&◌, ◌||◌, cond, length};
-ghost use Rattle.word_kit.specs.Words.{same, one_if};
+ghost use Rattle.word_kit.specs.Prelude.{same, one_if};
 ghost use Rattle.circuit.specs.Literals.{lit_truth, lit_reach};
 ghost use Rattle.circuit.specs.Nodes.{AllAgree};
 ghost use Rattle.circuit.specs.Frame.{IsLater};

@@ -1,7 +1,7 @@
 //! The clauses of gates.
 
 ghost use Rattle.std.specs.Prelude.{false, ◌≡◌, ◌<◌, ◌≤◌, ◌^◌, ◌+◌, ◌++◌, ◌∷◌, [], pos, neg_ℤ, IfOk, OnOk, length, slice_index_or};
-ghost use Rattle.word_kit.specs.Formulas.{variable};
+ghost use Rattle.word_kit.specs.Prelude.{variable};
 ghost use Rattle.circuit.specs.Nodes.{IsOrdered, node_reach};
 ghost use Rattle.circuit.specs.Clauses.{gate_clauses, chosen_clauses};
 

@@ -1,8 +1,7 @@
 //! Circuits, and the gates of two literals.
 
 ghost use Rattle.std.specs.Prelude.{false, ◌≡◌, ◌<◌, ◌≤◌, ◌^◌, ◌+◌, ◌++◌, ◌∷◌, [], ℕ, Bool, IfOk, OnOk, not, ◌&&◌, pos, length};
-ghost use Rattle.word_kit.specs.Words.{same};
-ghost use Rattle.word_kit.specs.Formulas.{literal_truth};
+ghost use Rattle.word_kit.specs.Prelude.{same, literal_truth};
 ghost use Rattle.circuit.specs.Literals.{lit_truth, lit_reach, signed_reach};
 ghost use Rattle.circuit.specs.Nodes.{AllAgree, IsInput, IsOrdered, Says, free_count, node_reach, told_place, is_free};
 ghost use Rattle.circuit.specs.Frame.{IsLater, MayUntie};

@@ -1,7 +1,7 @@
 //! Literals.
 
 ghost use Rattle.std.specs.Prelude.{◌≡◌, ◌<◌, ◌^◌, ◌+◌, ℕ, Bool, not, pos};
-ghost use Rattle.word_kit.specs.Words.{same};
+ghost use Rattle.word_kit.specs.Prelude.{same};
 ghost use Rattle.circuit.specs.Literals.{lit_truth, lit_reach, is_true, signed_variable};
 ghost use Rattle.circuit.specs.Made.{opposite, turned, same_lit};
 

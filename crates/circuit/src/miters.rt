@@ -2,10 +2,9 @@
 
 ghost use Rattle.std.specs.Prelude.{◌≡◌, ◌↔◌, ◌≤◌, ◌<◌, ℕ, Bool, IfOk, OnOk, IfSome, length};
 ghost use Rattle.std.specs.List.{All, list_any, filter_map};
-ghost use Rattle.word_kit.specs.Formulas.{IsFormula};
+ghost use Rattle.word_kit.specs.Prelude.{IsFormula};
 ghost use Rattle.circuit.specs.Literals.{lit_truth, lit_reach, signed_reach, is_true, signed_variable};
 ghost use Rattle.circuit.specs.WordsMade.{at};
-ghost use Rattle.circuit.specs.Nodes.{};
 ghost use Rattle.circuit.specs.Frame.{IsLater};
 ghost use Rattle.circuit.specs.Extensions.{GatesAgree};
 ghost use Rattle.circuit.specs.Clauses.{AreClausesFor};

@@ -1,8 +1,7 @@
 //! Shifts, orders, products and divisions of words.
 
 ghost use Rattle.std.specs.Prelude.{false, ◌≡◌, ◌≤◌, ◌<◌, ◌^◌, ℕ, Bool, IfOk, OnOk, cond, length};
-ghost use Rattle.word_kit.specs.Words.{is_less};
-ghost use Rattle.word_kit.specs.Products.{product_low, product_high};
+ghost use Rattle.word_kit.specs.Prelude.{is_less, product_low, product_high};
 ghost use Rattle.circuit.specs.Literals.{lit_truth, lit_reach, word_value, word_reach_below};
 ghost use Rattle.circuit.specs.Turns.{turned_word};
 ghost use Rattle.circuit.specs.Sharing.{IsApart};

@@ -2,7 +2,7 @@
 
 ghost use Rattle.std.specs.Prelude.{false, ◌≡◌, ◌↔◌, ◌∷◌, [], ◌<◌, ◌≤◌, ◌^◌, ◌+◌, ℕ, true, IsTrue, IfOk, length, replicate, slice_set, slice_index_or};
 ghost use Rattle.std.specs.List.{All};
-ghost use Rattle.word_kit.specs.Formulas.{variable};
+ghost use Rattle.word_kit.specs.Prelude.{variable};
 ghost use Rattle.circuit.specs.Nodes.{IsOrdered, node_reach};
 ghost use Rattle.circuit.specs.Clauses.{inputs_of, IsReached};
 ghost use Rattle.circuit.specs.Marks.{marked};

@@ -1,7 +1,7 @@
 //! Words whose literals are taken from others, without any gate.
 
 ghost use Rattle.std.specs.Prelude.{false, ◌≡◌, ◌<◌, ◌≤◌, ◌^◌};
-ghost use Rattle.word_kit.specs.Bits.{bit_of};
+ghost use Rattle.word_kit.specs.Prelude.{bit_of};
 ghost use Rattle.circuit.specs.Literals.{word_reach_below};
 ghost use Rattle.circuit.specs.WordsMade.{word_of, lit_bits, not_bits, byte_bits, join_bits, moved_by, moved, at};
 

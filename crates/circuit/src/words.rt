@@ -1,8 +1,7 @@
 //! Words made of gates, bit by bit.
 
 ghost use Rattle.std.specs.Prelude.{◌≡◌, ◌≤◌, ◌<◌, ◌+◌, ◌*◌, ◌^◌, ℕ, Bool, IfOk, OnOk, eqb, length};
-ghost use Rattle.word_kit.specs.Words.{one_if};
-ghost use Rattle.word_kit.specs.Bits.{bit_of};
+ghost use Rattle.word_kit.specs.Prelude.{one_if, bit_of};
 ghost use Rattle.circuit.specs.Literals.{lit_truth, lit_reach, word_value, word_reach_below};
 ghost use Rattle.circuit.specs.Sharing.{IsApart};
 ghost use Rattle.circuit.specs.Nodes.{AllAgree, free_value, free_reach};

@@ -3,25 +3,16 @@ use Rattle.std.proofs.Common.{◌≡◌, ◌≤◌, ◌+◌, ◌*◌, ℕ, zero,
 use Rattle.std.proofs.Math.ListN as list
 use Rattle.std.proofs.lemmas.List.{length-map}
 use Rattle.std.proofs.lemmas.List.Elements.{All-head, All-tail}
-use Rattle.ppc_isa.specs.Legal.{IsLegal}
-use Rattle.ppc_isa.specs.declared.instr.Instr.{Instr}
-use Rattle.ia_codec.specs.declared.op.Op.{Op}
-use Rattle.ia_codec.specs.declared.op.Op.TheVariants.{Ud2}
-use Rattle.ia_codec.specs.declared.op.Condition.{Condition}
-use Rattle.ia_codec.specs.Spelling.{spelling}
-use Rattle.machines.specs.Guest.{behind as next_address}
+use Rattle.machines.specs.Prelude.{IsLegal, Instr, Op, Ud2, Condition, spelling, behind as next_address}
 use Rattle.symbolic_tiles.specs.declared.flow_op.FlowOp.{FlowOp}
 use Rattle.symbolic_tiles.specs.declared.flow_op.FlowOp.TheVariants.{Plain, Jump, Mark, Edge, Leap}
 use Rattle.row_laws.specs.FlowWords.{is_flow}
-use Rattle.symbolic_tiles.specs.Marks.{AreLaid, flow_room, flows_room}
-use Rattle.symbolic_tiles.specs.Tiles.{spelled_bytes}
+use Rattle.symbolic_tiles.specs.Prelude.{AreLaid, flow_room, flows_room, spelled_bytes}
 use Rattle.code_layout.proofs.StraightTiles.{tiles_are_placeable, tiles_are_short}
-use Rattle.base_flow.specs.Tile.{tile as flow_tile}
+use Rattle.base_flow.specs.Prelude.{tile as flow_tile}
 use Rattle.base_flow.proofs.Room.{flow_tiles_are_short}
 use Rattle.base_flow.proofs.Tiles.{flow_tiles_are_laid, flow_tiles_are_marked}
-use Rattle.code_layout.specs.Decoded.{IsLegalDecoded}
-use Rattle.code_layout.specs.Places.{no_registers, no_moves}
-use Rattle.code_layout.specs.Code.{word_ops, IsPlaceable, IsLaid, block_items, items_length, item_length, jump_on, condition_of}
+use Rattle.code_layout.specs.Prelude.{IsLegalDecoded, no_registers, no_moves, word_ops, IsPlaceable, IsLaid, block_items, items_length, item_length, jump_on, condition_of}
 use Rattle.code_layout.proofs.BuiltWords.{is_map, straight_word, has_tile}
 
 length_append : (xs ys : List FlowOp) → items_length no_moves (xs ++ ys) ≡ items_length no_moves xs + items_length no_moves ys

@@ -5,17 +5,12 @@ use Rattle.std.proofs.lemmas.Bool.{cases_lt}
 use Rattle.std.proofs.lemmas.List.{take_more, get_or-set_same, get_or-set_other, length-take, length-drop}
 use Rattle.std.proofs.lemmas.List.Elements.{All-take, All-drop, All-from_get_or}
 use Rattle.std.proofs.lemmas.List.Sums.{sum_by-append, sum_by-cons, sum_by_push, sum_by-take-le, sum_by_more_le}
-use Rattle.ppc_isa.specs.declared.instr.Instr.{Instr}
-use Rattle.block_find.specs.Branches.{address_of}
-use Rattle.block_find.specs.Blocks.{AreBlocksOf}
-use Rattle.block_find.specs.Laws.{all_blocks, block_at, word_count, IsBlockAt, EachIsBlock, EachBeginsOne, AllHaveFewWords}
+use Rattle.machines.specs.Prelude.{Instr}
+use Rattle.block_find.specs.Prelude.{address_of, AreBlocksOf, all_blocks, block_at, word_count, IsBlockAt, EachIsBlock, EachBeginsOne, AllHaveFewWords}
 use Rattle.block_find.specs.declared.block.Block.{Block}
 use Rattle.block_find.specs.declared.block.Blocks.{Blocks}
 use Rattle.symbolic_tiles.specs.declared.flow_op.FlowOp.{FlowOp}
-use Rattle.code_layout.specs.Decoded.{AreDecodedAs, IsLegalDecoded}
-use Rattle.code_layout.specs.Places.{place_of, Moves, no_moves}
-use Rattle.code_layout.specs.Code.{block_items}
-use Rattle.code_layout.specs.Layout.{words_of, items_of, block_length, stands_at, BeginsAt}
+use Rattle.code_layout.specs.Prelude.{AreDecodedAs, IsLegalDecoded, place_of, Moves, no_moves, block_items, words_of, items_of, block_length, stands_at, BeginsAt}
 use Rattle.code_layout.proofs.Laid.{all_legal}
 
 abbrev pub nowhere : Block

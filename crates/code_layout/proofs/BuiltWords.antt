@@ -1,14 +1,11 @@
 -- Each instruction is a flow word or none, and has a tile.
 use Rattle.std.proofs.Common.{◌≡◌, true, false, inl, inr, refl, sym}
 use Rattle.std.proofs.lemmas.Bool.{false≢true}
-use Rattle.ppc_isa.specs.declared.instr.Instr.{Instr}
-use Rattle.ppc_isa.specs.declared.instr.Instr.TheVariants.{Branch, BranchConditional, BranchRegister, Trap, TrapImmediate, SystemCall, Load, LoadUpdate, LoadIndexed, LoadIndexedUpdate, Store, StoreUpdate, StoreIndexed, StoreIndexedUpdate, Multiple}
-use Rattle.ppc_isa.specs.Map.{IsMap}
+use Rattle.machines.specs.Prelude.{Instr, Branch, BranchConditional, BranchRegister, Trap, TrapImmediate, SystemCall, Load, LoadUpdate, LoadIndexed, LoadIndexedUpdate, Store, StoreUpdate, StoreIndexed, StoreIndexedUpdate, Multiple, IsMap}
 use Rattle.row_laws.specs.FlowWords.{is_flow}
-use Rattle.base_flow.specs.Tile.{HasTile}
+use Rattle.base_flow.specs.Prelude.{HasTile}
 use Rattle.base_flow.proofs.Tiles.{built_have_tiles}
-use Rattle.code_layout.specs.Built.{IsBuiltStraight}
-use Rattle.code_layout.specs.Places.{no_registers}
+use Rattle.code_layout.specs.Prelude.{IsBuiltStraight, no_registers}
 
 pub is_map : IsMap no_registers
 is_map = record { ebx = tt; esi = tt; edi = tt; ebx_esi = tt; ebx_edi = tt; esi_edi = tt }

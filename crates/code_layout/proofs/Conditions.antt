@@ -2,10 +2,8 @@
 use Rattle.std.specs.Prelude.{◌==◌}
 use Rattle.std.proofs.Common.{◌≡◌, ℕ, Bool, false, List, [], ◌∷◌, find, Option, Some, None, IfSome, refl, sym, subst, rules}
 use Rattle.std.proofs.lemmas.Bool.{ne_eqb}
-use Rattle.ia_codec.specs.Spelling.{condition_number}
-use Rattle.ia_codec.specs.declared.op.Condition.{Condition}
-use Rattle.ia_codec.specs.declared.op.Condition.TheVariants.{Below, NotBelow, Equal, NotEqual, NotAbove, Above, Sign, NotSign, Less, NotLess, NotGreater, Greater}
-use Rattle.code_layout.specs.Code.{conditions, condition_of}
+use Rattle.machines.specs.Prelude.{condition_number, Condition, Below, NotBelow, Equal, NotEqual, NotAbove, Above, Sign, NotSign, Less, NotLess, NotGreater, Greater}
+use Rattle.code_layout.specs.Prelude.{conditions, condition_of}
 
 condition-found : (c : Condition) → condition_of (condition_number c) ≡ Some c
 condition-found Below = refl

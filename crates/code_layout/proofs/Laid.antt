@@ -1,13 +1,10 @@
 -- Blocks that are laid out one behind another.
 use Rattle.std.proofs.Common.{◌≡◌, ◌≤◌, ◌<◌, ◌+◌, ℕ, suc, List, ◌∷◌, ◌++◌, length, get_or, drop, slice_index, Option, ap, sym, ◌∙◌, append_assoc, drop-cons, arith, Some, None}
 use Rattle.std.proofs.lemmas.List.{append-nil, drop_all}
-use Rattle.ppc_isa.specs.declared.instr.Instr.{Instr}
+use Rattle.machines.specs.Prelude.{Instr}
 use Rattle.block_find.specs.declared.block.Block.{Block}
 use Rattle.symbolic_tiles.specs.declared.flow_op.FlowOp.{FlowOp}
-use Rattle.code_layout.specs.Decoded.{IsDecodedAs, decoded_at, AreDecodedAs, IsLegalDecoded}
-use Rattle.code_layout.specs.Places.{Places}
-use Rattle.code_layout.specs.Code.{items_bytes, items_length}
-use Rattle.code_layout.specs.Layout.{items_of, blocks_bytes}
+use Rattle.code_layout.specs.Prelude.{IsDecodedAs, decoded_at, AreDecodedAs, IsLegalDecoded, Places, items_bytes, items_length, items_of, blocks_bytes}
 
 module _ (decoded : List (Option Instr)) (p : Places) where
   laid_drop : (here k : ℕ) (blocks : List Block) (d : Block) → k < length blocks → blocks_bytes decoded p here (drop k blocks) ≡ items_bytes p here (items_of p.first decoded (get_or blocks k d)) ++ blocks_bytes decoded p (here + items_length p.switch (items_of p.first decoded (get_or blocks k d))) (drop (k + 1) blocks)

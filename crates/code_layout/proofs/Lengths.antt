@@ -3,8 +3,7 @@ use Rattle.std.proofs.Common.{◌≡◌, ◌≤◌, ◌<◌, ◌+◌, ℕ, suc, 
 use Rattle.std.proofs.lemmas.Grind.{common_steps}
 use Rattle.symbolic_tiles.specs.declared.flow_op.FlowOp.{FlowOp}
 use Rattle.symbolic_tiles.specs.declared.flow_op.FlowOp.TheVariants.{Mark}
-use Rattle.code_layout.specs.Places.{no_moves}
-use Rattle.code_layout.specs.Code.{item_length, items_length, is_mark, before_mark}
+use Rattle.code_layout.specs.Prelude.{no_moves, item_length, items_length, is_mark, before_mark}
 
 none-left : (xs : List FlowOp) (i : ℕ) → length xs ≤ i → drop i xs ≡ []
 none-left xs i le = grind (arith, common_steps)

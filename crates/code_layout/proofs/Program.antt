@@ -1,16 +1,11 @@
 -- What is put together of a program's words, blocks, table and code.
 use Rattle.std.proofs.Common.{◌≡◌, ℕ, ◌+◌, ◌*◌, ◌<◌, List, length, slice_index, Option, sym, ap, ◌∙◌, subst}
-use Rattle.ppc_isa.specs.declared.instr.Instr.{Instr}
-use Rattle.space.specs.declared.program.Program.{Program}
+use Rattle.machines.specs.Prelude.{Instr, Program}
 use Rattle.branch_table.specs.declared.code.Code.{Code}
-use Rattle.block_find.specs.Branches.{address_of}
-use Rattle.block_find.specs.Blocks.{AreBlocksOf}
-use Rattle.block_find.specs.Laws.{all_blocks}
+use Rattle.block_find.specs.Prelude.{address_of, AreBlocksOf, all_blocks}
 use Rattle.block_find.specs.declared.block.Blocks.{Blocks}
 use Rattle.code_words.specs.Words.{HasWords, first_of}
-use Rattle.code_layout.specs.Decoded.{AreDecodedAs}
-use Rattle.code_layout.specs.Places.{no_moves, Places, places_in}
-use Rattle.code_layout.specs.Layout.{code_bytes, BeginsAt, IsCodeFor, IsLaidFor}
+use Rattle.code_layout.specs.Prelude.{AreDecodedAs, no_moves, Places, places_in, code_bytes, BeginsAt, IsCodeFor, IsLaidFor}
 
 pub code_for : (first entry : ℕ) (words : List ℕ) (decoded : List (Option Instr)) (blocks : Blocks) (area : ℕ) (table table' bytes bytes' : List ℕ) (p : Places) → AreDecodedAs words decoded → AreBlocksOf first entry words blocks →
     p ≡ places_in area first table' → table' ≡ table → bytes' ≡ bytes → bytes ≡ code_bytes decoded p (all_blocks blocks) → ((k : ℕ) → k < length words → BeginsAt first decoded no_moves (area + 0x81000 + 5) (all_blocks blocks) (address_of first k) (slice_index table k)) →

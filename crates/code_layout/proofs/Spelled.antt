@@ -1,9 +1,8 @@
 -- Ops that are put one behind another.
 use Rattle.std.proofs.Common.{◌≡◌, ◌≤◌, ◌<◌, ◌+◌, ℕ, suc, List, ◌++◌, length, get_or, drop, ap, sym, ◌∙◌, append_assoc, length-append, drop-cons, arith}
 use Rattle.std.proofs.lemmas.List.{append-nil, drop_all}
-use Rattle.ia_codec.specs.Spelling.{spelling}
-use Rattle.ia_codec.specs.declared.op.Op.{Op}
-use Rattle.code_layout.specs.Code.{spelled}
+use Rattle.machines.specs.Prelude.{spelling, Op}
+use Rattle.code_layout.specs.Prelude.{spelled}
 
 spelled-drop : (ops : List Op) (i : ℕ) (d : Op) → i < length ops → spelled (drop i ops) ≡ spelling (get_or ops i d) ++ spelled (drop (i + 1) ops)
 spelled-drop ops i d lt =

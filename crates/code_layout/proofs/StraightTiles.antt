@@ -1,22 +1,16 @@
 -- What holds of the tiles of words that are no flow words, with an access and without one.
 use Rattle.std.proofs.Common.{◌≡◌, ◌≤◌, false, length, All, inl, inr, refl}
-use Rattle.ppc_isa.specs.declared.map.Map.{Map}
-use Rattle.ppc_isa.specs.Map.{IsMap}
-use Rattle.ppc_isa.specs.declared.instr.Instr.{Instr}
-use Rattle.ppc_isa.specs.declared.instr.Instr.TheVariants.{Load, LoadUpdate, LoadIndexed, LoadIndexedUpdate, Store, StoreUpdate, StoreIndexed, StoreIndexedUpdate, Multiple}
-use Rattle.ppc_isa.specs.Legal.{IsLegal}
-use Rattle.reg_map.specs.Relocated.{IsPlaceable}
+use Rattle.machines.specs.Prelude.{Map, IsMap, Instr, Load, LoadUpdate, LoadIndexed, LoadIndexedUpdate, Store, StoreUpdate, StoreIndexed, StoreIndexedUpdate, Multiple, IsLegal}
+use Rattle.reg_map.specs.Prelude.{IsPlaceable}
 use Rattle.row_laws.specs.FlowWords.{is_flow}
-use Rattle.symbolic_tiles.specs.Row.{DoesRow}
-use Rattle.symbolic_tiles.specs.Tiles.{spelled_bytes}
+use Rattle.symbolic_tiles.specs.Prelude.{DoesRow, spelled_bytes}
 use Rattle.base_alu.specs.Tile.{IsBuilt as IsBuiltAlu}
 use Rattle.base_mem.specs.Tile.{has_access}
 use Rattle.base_alu.proofs.Straight as alu
 use Rattle.base_alu.proofs.Tiles as alu_tiles
 use Rattle.base_mem.proofs.Straight as access
 use Rattle.base_mem.proofs.Tiles as access_tiles
-use Rattle.code_layout.specs.Built.{IsBuiltStraight}
-use Rattle.code_layout.specs.Code.{word_ops}
+use Rattle.code_layout.specs.Prelude.{IsBuiltStraight, word_ops}
 
 pub without_access : (i : Instr) → IsBuiltAlu i → has_access i ≡ false
 without_access (Load op d a imm) built = absurd built

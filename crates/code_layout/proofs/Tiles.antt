@@ -1,16 +1,12 @@
 -- The items of a block's words, made one word at a time.
 use Rattle.std.proofs.Common.{◌≡◌, ◌≤◌, ◌<◌, ◌+◌, ℕ, suc, Bool, true, false, cond, List, [], ◌∷◌, ◌++◌, map, length, get_or, drop, Option, Some, None, refl, ap, sym, ◌∙◌, append_assoc, drop-cons, arith}
 use Rattle.std.proofs.lemmas.List.{drop_all}
-use Rattle.ppc_isa.specs.declared.instr.Instr.{Instr}
-use Rattle.ia_codec.specs.declared.op.Op.{Op}
-use Rattle.ia_codec.specs.declared.op.Op.TheVariants.{Ud2}
-use Rattle.machines.specs.Guest.{behind as next_address}
+use Rattle.machines.specs.Prelude.{Instr, Op, Ud2, behind as next_address}
 use Rattle.row_laws.specs.FlowWords.{is_flow}
-use Rattle.base_flow.specs.Tile.{tile as flow_tile}
+use Rattle.base_flow.specs.Prelude.{tile as flow_tile}
 use Rattle.symbolic_tiles.specs.declared.flow_op.FlowOp.{FlowOp}
 use Rattle.symbolic_tiles.specs.declared.flow_op.FlowOp.TheVariants.{Plain, Edge}
-use Rattle.code_layout.specs.Places.{no_registers}
-use Rattle.code_layout.specs.Code.{word_ops, block_items}
+use Rattle.code_layout.specs.Prelude.{no_registers, word_ops, block_items}
 
 abbrev plain : List Op → List FlowOp
 plain ops = map (λ op. Plain op) ops

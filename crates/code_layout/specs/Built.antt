@@ -1,6 +1,6 @@
 -- The instructions that have a tile of ops.
 use Rattle.std.specs.Prelude.{◌⊎◌}
-use Rattle.ppc_isa.specs.declared.instr.Instr.{Instr}
+use Rattle.machines.specs.Prelude.{Instr}
 use Rattle.base_alu.specs.Tile.{IsBuilt as IsBuiltAlu}
 use Rattle.base_mem.specs.Tile.{IsBuilt as IsBuiltAccess}
 

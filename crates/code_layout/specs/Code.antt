@@ -1,23 +1,14 @@
 -- The items of a block, and their bytes. This project's own.
 use Rattle.std.specs.Prelude.{ℕ, ◌+◌, ◌-◌, ◌%◌, ◌^◌, ◌==◌, List, [], ◌∷◌, ◌++◌, map, find, length, Option, None, Some, if◌then◌else◌}
-use Rattle.ppc_isa.specs.declared.instr.Instr.{Instr}
-use Rattle.ia_codec.specs.Spelling.{condition_number, spelling}
-use Rattle.ia_codec.specs.declared.op.Op.{Op}
-use Rattle.ia_codec.specs.declared.op.Op.TheVariants.{Jcc, Jmp, JmpTo}
-use Rattle.ia_codec.specs.declared.op.Operand.TheVariants.{Base}
-use Rattle.ia_codec.specs.Registers.{eax}
-use Rattle.ia_codec.specs.declared.op.Condition.{Condition}
-use Rattle.ia_codec.specs.declared.op.Condition.TheVariants.{Below, NotBelow, Equal, NotEqual, NotAbove, Above, Sign, NotSign, Less, NotLess, NotGreater, Greater}
+use Rattle.machines.specs.Prelude.{Instr, condition_number, spelling, Op, Jcc, Jmp, JmpTo, Base, eax, Condition, Below, NotBelow, Equal, NotEqual, NotAbove, Above, Sign, NotSign, Less, NotLess, NotGreater, Greater, Map, behind as next_address}
 pub use Rattle.reg_map.specs.Relocated.{operand_at, op_at, IsPlaceable}
 pub use Rattle.symbolic_tiles.specs.Marks.{IsLaid, is_mark}
 use Rattle.code_layout.specs.Leap.{leap_ops}
 use Rattle.code_layout.specs.Places.{no_registers, Moves, Places}
-use Rattle.ppc_isa.specs.declared.map.Map.{Map}
 use Rattle.base_alu.specs.Tile.{tile as alu_tile}
 use Rattle.base_mem.specs.Tile.{has_access, tile as access_tile}
-use Rattle.base_flow.specs.Tile.{tile as flow_tile, illegal_items}
-use Rattle.symbolic_tiles.specs.TileItems.{flows_of}
-use Rattle.machines.specs.Guest.{behind as next_address}
+use Rattle.base_flow.specs.Prelude.{tile as flow_tile, illegal_items}
+use Rattle.symbolic_tiles.specs.Prelude.{flows_of}
 use Rattle.row_laws.specs.FlowWords.{is_flow}
 use Rattle.symbolic_tiles.specs.declared.flow_op.FlowOp.{FlowOp}
 use Rattle.symbolic_tiles.specs.declared.flow_op.FlowOp.TheVariants.{Plain, Jump, Mark, Edge, Leap}

@@ -1,7 +1,6 @@
 -- Code words as they are decoded once: each is an instruction, or an illegal word.
 use Rattle.std.specs.Prelude.{◌≡◌, ℕ, ◌<◌, List, length, get_or, slice_index, Option, Some, None}
-use Rattle.ppc_isa.specs.Legal.{IsLegal, IsWordOf}
-use Rattle.ppc_isa.specs.declared.instr.Instr.{Instr}
+use Rattle.machines.specs.Prelude.{IsLegal, IsWordOf, Instr}
 
 -- the word is this instruction's; None: it is none's
 abbrev pub IsDecodedAs : ℕ → Option Instr → Type 0

@@ -1,14 +1,9 @@
 -- The code of blocks, one behind another (this project's own).
 use Rattle.std.specs.Prelude.{◌≡◌, ℕ, ◌<◌, ◌+◌, ◌*◌, ◌-◌, ◌^◌, List, length, [], ◌∷◌, ◌++◌, take, drop, slice_index, Option}
 use Rattle.std.specs.List.{sum_by}
-use Rattle.ppc_isa.specs.declared.instr.Instr.{Instr}
-use Rattle.ia_codec.specs.Spelling.{spelling}
-use Rattle.ia_codec.specs.declared.op.Op.TheVariants.{Jmp}
-use Rattle.space.specs.declared.program.Program.{Program}
+use Rattle.machines.specs.Prelude.{Instr, spelling, Jmp, Program}
 use Rattle.branch_table.specs.declared.code.Code.{Code}
-use Rattle.block_find.specs.Branches.{address_of}
-use Rattle.block_find.specs.Blocks.{AreBlocksOf}
-use Rattle.block_find.specs.Laws.{all_blocks, block_at}
+use Rattle.block_find.specs.Prelude.{address_of, AreBlocksOf, all_blocks, block_at}
 use Rattle.block_find.specs.declared.block.Block.{Block}
 use Rattle.block_find.specs.declared.block.Blocks.{Blocks}
 use Rattle.code_words.specs.Words.{HasWords, first_of}

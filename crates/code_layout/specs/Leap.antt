@@ -1,10 +1,6 @@
 -- The indirect sequence, by which bclr and bcctr go through the table (this project's own).
 use Rattle.std.specs.Prelude.{ℕ, ◌*◌, List, [], ◌∷◌}
-use Rattle.ia_codec.specs.declared.op.AluOp.TheVariants.{And, Sub, Cmp}
-use Rattle.ia_codec.specs.declared.op.Op.{Op}
-use Rattle.ia_codec.specs.declared.op.Op.TheVariants.{AluImm, MovTo}
-use Rattle.ia_codec.specs.declared.op.Operand.TheVariants.{Reg}
-use Rattle.ia_codec.specs.Registers.{eax, ecx}
+use Rattle.machines.specs.Prelude.{And, Sub, Cmp, Op, AluImm, MovTo, Reg, eax, ecx}
 
 -- its ops before its jumps: ecx, which has the target, without its two low bits; that less the first code word's address
 -- in eax, compared with the length of the code in bytes

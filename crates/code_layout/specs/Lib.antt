@@ -5,3 +5,4 @@ pub mod PlacesOf
 pub mod Leap
 pub mod Code
 pub mod Layout
+pub mod Prelude

@@ -1,8 +1,7 @@
 -- Where the parts of a written file stand. This project's own.
 use Rattle.std.specs.Prelude.{ℕ, ◌+◌, ◌-◌, ◌/◌, ◌==◌, List, [], length, slice_index_or, None, if◌then◌else◌}
-use Rattle.ppc_isa.specs.declared.map.Map.{Map}
-use Rattle.ia_codec.specs.declared.op.Op.{Op}
-use Rattle.block_find.specs.Branches.{address_of}
+use Rattle.machines.specs.Prelude.{Map, Op}
+use Rattle.block_find.specs.Prelude.{address_of}
 
 -- the map that holds no GPR: that of every block so far
 abbrev pub no_registers : Map

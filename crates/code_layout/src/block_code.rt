@@ -1,8 +1,8 @@
 //! The items of a block.
 
 ghost use Rattle.std.specs.Prelude.{◌≡◌, ◌≤◌, ◌+◌, ◌*◌, ◌++◌, IfOk, OnOk, All, map, length};
-ghost use Rattle.ppc_isa.specs.Legal.{IsLegal};
-ghost use Rattle.reg_map.specs.Place.{IsMap};
+ghost use Rattle.machines.specs.Prelude.{IsLegal};
+ghost use Rattle.reg_map.specs.Prelude.{IsMap};
 ghost use Rattle.code_layout.specs.Built.{IsBuiltStraight};
 ghost use Rattle.code_layout.specs.Decoded.{IsLegalDecoded};
 ghost use Rattle.code_layout.specs.Places.{no_moves};

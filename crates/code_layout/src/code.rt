@@ -1,8 +1,8 @@
 //! Items as bytes at their address.
 
 ghost use Rattle.std.specs.Prelude.{◌≡◌, ◌≤◌, ◌<◌, ◌+◌, ◌*◌, ◌^◌, ◌++◌, OnOk, All, length, vec_len};
-ghost use Rattle.ia_codec.specs.Spelling.{spelling, IsInProfile, IsOperand};
-ghost use Rattle.reg_map.specs.Relocated.{operand_at as operand_over, op_at};
+ghost use Rattle.machines.specs.Prelude.{spelling, IsInProfile, IsOperand};
+ghost use Rattle.reg_map.specs.Prelude.{operand_at as operand_over, op_at};
 ghost use Rattle.code_layout.specs.Code.{IsLaid, jump as jump_of, item_length as length_of, items_length, before_mark as before_mark_of, spelled, leap_bytes, item_bytes, items_bytes};
 ghost use Rattle.code_layout.specs.Leap.{leap_ops as leap_ops_of};
 ghost use Rattle.code_layout.specs.Places.{no_moves};

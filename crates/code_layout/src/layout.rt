@@ -1,9 +1,7 @@
 //! The code segment: `hold`, the leaders' blocks and the singles, each at its address.
 
 ghost use Rattle.std.specs.Prelude.{◌≡◌, ◌≤◌, ◌<◌, ◌+◌, ◌*◌, ◌^◌, ℕ, IfOk, length, vec_len, slice_index};
-ghost use Rattle.block_find.specs.Branches.{address_of};
-ghost use Rattle.block_find.specs.Blocks.{AreBlocksOf};
-ghost use Rattle.block_find.specs.Laws.{all_blocks};
+ghost use Rattle.block_find.specs.Prelude.{address_of, AreBlocksOf, all_blocks};
 ghost use Rattle.code_layout.specs.Places.{no_moves};
 ghost use Rattle.code_layout.specs.PlacesOf.{places_of};
 ghost use Rattle.code_layout.specs.Layout.{code_bytes, BeginsAt};

@@ -1,7 +1,7 @@
 //! Where the parts of a written file stand.
 
 ghost use Rattle.std.specs.Prelude.{◌≡◌, ◌≢◌, ◌≤◌, ◌<◌, ◌+◌, ◌*◌, ◌^◌, ℕ, MatchOption, length};
-ghost use Rattle.block_find.specs.Branches.{address_of as address};
+ghost use Rattle.block_find.specs.Prelude.{address_of as address};
 ghost use Rattle.code_layout.specs.Places.{entry_of};
 
 /// Where the code and what it reads stand on the host.

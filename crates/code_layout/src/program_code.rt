@@ -1,10 +1,10 @@
 //! The code of a program over its host area.
 
 ghost use Rattle.std.specs.Prelude.{◌≡◌, ◌≤◌, ◌+◌, ◌*◌, ℕ, IfOk, List, length};
-ghost use Rattle.space.specs.declared.program.Kind.TheVariants.{PowerPc};
-ghost use Rattle.elf_load.specs.Faults.{IsProgramOf};
+ghost use Rattle.machines.specs.Prelude.{PowerPc};
+ghost use Rattle.elf_load.specs.Prelude.{IsProgramOf};
 ghost use Rattle.code_words.specs.Words.{HasWords, first_of};
-ghost use Rattle.block_find.specs.Blocks.{AreBlocksOf};
+ghost use Rattle.block_find.specs.Prelude.{AreBlocksOf};
 ghost use Rattle.code_layout.specs.Layout.{IsLaidFor};
 
 use crate::decoded::decoded_words;

@@ -1,8 +1,7 @@
 //! The code words of a program, and its blocks.
 
 ghost use Rattle.std.specs.Prelude.{◌≡◌, ◌≤◌, ◌<◌, ◌+◌, ◌*◌, ◌^◌, All, drop, length, take};
-ghost use Rattle.block_find.specs.Laws.{all_blocks, block_at};
-ghost use Rattle.block_find.specs.Blocks.{AreBlocksOf};
+ghost use Rattle.block_find.specs.Prelude.{all_blocks, block_at, AreBlocksOf};
 ghost use Rattle.code_layout.specs.Decoded.{AreDecodedAs, IsLegalDecoded};
 ghost use Rattle.code_layout.specs.Places.{place_of};
 ghost use Rattle.code_layout.specs.Layout.{words_of as words_of_block};

@@ -7,19 +7,13 @@ use Rattle.std.proofs.lemmas.List.{length-append, length-take-le, length-drop, l
 use Rattle.std.proofs.lemmas.List.Elements.{All-nil, All-cons, All-append, All-weaker, All-get_or}
 use Rattle.std.proofs.lemmas.List.Quantifiers.{position-Some}
 use Rattle.std.proofs.lemmas.Option.{slice_get-get_or, get_or_from_slice_get}
-use Rattle.space.specs.declared.program.Kind.TheVariants.{PowerPc}
-use Rattle.space.specs.declared.program.Program.{Program}
-use Rattle.space.specs.declared.program.Segment.{Segment}
-use Rattle.elf_load.specs.Headers.{entry, header, header_count, is_load, is_segment, is_code, IsWordOf}
+use Rattle.machines.specs.Prelude.{PowerPc, Program, Segment, code_in, code_of, is_code_word}
+use Rattle.elf_load.specs.Prelude.{entry, header, header_count, is_load, is_segment, is_code, IsWordOf, zeros, segment_of, segments_before, stack, segments_of, is_code_segment, Passes, HasOneCode, StartsAtWord, IsProgramOf}
 use Rattle.elf_load.specs.declared.headers.ProgramHeader.{ProgramHeader}
-use Rattle.elf_load.specs.Program.{zeros, segment_of, segments_before, stack, segments_of, is_code_segment}
-use Rattle.elf_load.specs.Faults.{Passes, HasOneCode, StartsAtWord, IsProgramOf}
 use Rattle.elf_load.specs.declared.faults.HeaderRule.TheVariants as header_rule
 use Rattle.elf_load.specs.declared.refusal.ElfRefusal.{ElfRefusal}
 use Rattle.elf_load.specs.declared.refusal.ElfRefusal.TheVariants as refusal
 use Rattle.elf_load.proofs.Tried.{none_breaks, lies_inside}
-use Rattle.machines.specs.Memory.{code_in, code_of}
-use Rattle.machines.specs.Guest.{is_code_word}
 
 length_zeros : (n : ℕ) → length (zeros n) ≡ n
 unfolding zeros

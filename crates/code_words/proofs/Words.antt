@@ -6,9 +6,7 @@ use Rattle.std.specs.Int.{next_multiple_of}
 use Rattle.std.proofs.lemmas.Bool.Decides.{nat_tests}
 use Rattle.std.proofs.lemmas.List.{get_or-drop, get_or-take}
 use Rattle.byteorder.specs.Endian.{IsRead, big_number}
-use Rattle.space.specs.declared.program.Program.{Program}
-use Rattle.machines.specs.Memory.{Code, code_of, code_byte}
-use Rattle.machines.specs.Guest.{is_code_word, word_at}
+use Rattle.machines.specs.Prelude.{Program, Code, code_of, code_byte, is_code_word, word_at}
 use Rattle.code_words.specs.Words.{HasWords, first_of}
 
 -- what a code word's address is like

@@ -1,9 +1,7 @@
 -- The code words of a program. A code word is an aligned word all of whose bytes lie in the code segment (Power ISA Book I, "Instruction Fetches").
 use Rattle.std.specs.Prelude.{◌≡◌, ℕ, ◌+◌, ◌*◌, ◌%◌, ◌^◌, ◌<◌, true, List, length, slice_index}
 use Rattle.std.specs.Int.{next_multiple_of}
-use Rattle.space.specs.declared.program.Program.{Program}
-use Rattle.machines.specs.Memory.{code_of}
-use Rattle.machines.specs.Guest.{is_code_word, word_at}
+use Rattle.machines.specs.Prelude.{Program, code_of, is_code_word, word_at}
 
 -- the program's code words are these, one behind another from the address `first` on, below 2^32
 pub record HasWords (P : Program) (first : ℕ) (words : List ℕ) : Type 0 where

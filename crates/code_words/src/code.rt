@@ -1,10 +1,8 @@
 //! The aligned words of a program's code segment, which may begin at any address and have any length.
 ghost use Rattle.std.specs.Prelude.{◌≡◌, ◌+◌, ◌*◌, ◌%◌, ◌<◌, ◌≤◌, ℕ, true, IfOk, List, Some, drop, length, take};
-ghost use Rattle.space.specs.declared.program.Kind.TheVariants.{PowerPc};
+ghost use Rattle.machines.specs.Prelude.{PowerPc, code_in, code_of, is_code_word};
 ghost use Rattle.byteorder.specs.Endian.{IsRead, big_number};
-ghost use Rattle.elf_load.specs.Faults.{IsProgramOf};
-ghost use Rattle.machines.specs.Memory.{code_in, code_of};
-ghost use Rattle.machines.specs.Guest.{is_code_word};
+ghost use Rattle.elf_load.specs.Prelude.{IsProgramOf};
 ghost use Rattle.code_words.specs.Words.{HasWords, first_of};
 
 use byteorder::{BigEndian, ByteOrder};

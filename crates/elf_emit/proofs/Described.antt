@@ -7,11 +7,9 @@ use Rattle.std.proofs.lemmas.List.{drop_at, take_at, drop-drop, append_assoc, le
 use Rattle.std.proofs.lemmas.List.Elements.{All-head, All-tail}
 use Rattle.std.proofs.lemmas.List.Sums.{sum_by-cons}
 use Rattle.space.specs.declared.program.Kind.TheVariants.{Ia32}
-use Rattle.elf_load.specs.Numbers.{word_at}
-use Rattle.elf_load.specs.Headers.{header}
+use Rattle.elf_load.specs.Prelude.{word_at, header}
 use Rattle.elf_load.specs.declared.headers.ProgramHeader.{ProgramHeader}
-use Rattle.elf_emit.specs.File.{FileSegment, word, flags_of, file_header, program_header, offset_of, end_of, program_headers, contents, headers_end, elf_file}
-use Rattle.elf_emit.specs.Loaded.{IsSound}
+use Rattle.elf_emit.specs.Prelude.{FileSegment, word, flags_of, file_header, program_header, offset_of, end_of, program_headers, contents, headers_end, elf_file, IsSound}
 use Rattle.elf_emit.proofs.Fields.{word_here, behind, table_field, length_header}
 
 abbrev described_by : (kind offset at filesz memsz flags : ℕ) → ProgramHeader

@@ -4,8 +4,8 @@ use Rattle.std.proofs.lemmas.List.{drop_at, drop-drop, length-append}
 use Rattle.byteorder.specs.Endian.{little_bytes, little_number}
 use Rattle.byteorder.specs.Numbers.{little_number-reads_back}
 use Rattle.space.specs.declared.program.Kind.TheVariants.{Ia32}
-use Rattle.elf_load.specs.Numbers.{half_at, word_at}
-use Rattle.elf_emit.specs.File.{identification, no_sections, file_header}
+use Rattle.elf_load.specs.Prelude.{half_at, word_at}
+use Rattle.elf_emit.specs.Prelude.{identification, no_sections, file_header}
 
 -- a word is read back where it stands
 pub word_here : (file : List ℕ) (at x : ℕ) (rest : List ℕ) → x < 2 ^ 32 → drop at file ≡ little_bytes 4 x ++ rest → word_at Ia32 file at ≡ x

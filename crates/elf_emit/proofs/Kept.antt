@@ -8,9 +8,8 @@ use Rattle.std.proofs.lemmas.List.Sums.{prefix_len_passes, suffix_len-le-length}
 use Rattle.space.specs.declared.program.Segment.{Segment}
 use Rattle.space.specs.declared.program.Program.{Program}
 use Rattle.branch_table.specs.declared.code.Code.{Code}
-use Rattle.elf_load.specs.Program.{zeros, is_code_segment}
-use Rattle.elf_emit.specs.Loaded.{in_memory}
-use Rattle.elf_emit.specs.Translation.{kept, source, whole, without_exec, added, file_segments, translated}
+use Rattle.elf_load.specs.Prelude.{zeros, is_code_segment}
+use Rattle.elf_emit.specs.Prelude.{in_memory, kept, source, whole, without_exec, added, file_segments, translated}
 
 abbrev is_zero : ℕ → Bool
 is_zero b = b == 0

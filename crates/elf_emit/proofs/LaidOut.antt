@@ -8,12 +8,9 @@ use Rattle.std.proofs.lemmas.List.Sums.{sum_by_more, position_or_len_is}
 use Rattle.space.specs.declared.program.Kind.TheVariants.{Ia32}
 use Rattle.space.specs.declared.program.Segment.{Segment}
 use Rattle.elf_load.specs.Headers as load
-use Rattle.elf_load.specs.Headers.{header, is_load, is_segment, is_writable, is_executable}
-use Rattle.elf_load.specs.Program.{segment_of, segments_before, is_code_segment}
-use Rattle.elf_load.specs.Faults.{memory_before}
+use Rattle.elf_load.specs.Prelude.{header, is_load, is_segment, is_writable, is_executable, segment_of, segments_before, is_code_segment, memory_before}
 use Rattle.elf_load.specs.declared.headers.ProgramHeader.{ProgramHeader}
-use Rattle.elf_emit.specs.File.{FileSegment}
-use Rattle.elf_emit.specs.Loaded.{in_memory, is_code, IsSound, AreLoadable}
+use Rattle.elf_emit.specs.Prelude.{FileSegment, in_memory, is_code, IsSound, AreLoadable}
 use Rattle.elf_emit.proofs.Described.{described, IsDescribed}
 
 pub nothing : FileSegment

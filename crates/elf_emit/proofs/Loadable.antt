@@ -13,12 +13,8 @@ use Rattle.space.specs.declared.program.Kind.TheVariants.{PowerPc, Ia32}
 use Rattle.space.specs.declared.program.Segment.{Segment}
 use Rattle.space.specs.declared.program.Program.{Program}
 use Rattle.branch_table.specs.declared.code.Code.{Code}
-use Rattle.elf_load.specs.Area.{IsArea, MeetsArea}
-use Rattle.elf_load.specs.Faults.{IsProgramOf}
-use Rattle.elf_load.specs.Program.{zeros}
-use Rattle.elf_emit.specs.File.{FileSegment, word, elf_file}
-use Rattle.elf_emit.specs.Loaded.{is_code, IsSound, AreApart, AreLoadable}
-use Rattle.elf_emit.specs.Translation.{source, whole, home_page, home, table, ops, added, file_segments, translated, FitsArea}
+use Rattle.elf_load.specs.Prelude.{IsArea, MeetsArea, IsProgramOf, zeros}
+use Rattle.elf_emit.specs.Prelude.{FileSegment, word, elf_file, is_code, IsSound, AreApart, AreLoadable, source, whole, home_page, home, table, ops, added, file_segments, translated, FitsArea}
 use Rattle.elf_emit.proofs.Kept.{kept_bound, length_source, file_in_memory}
 use Rattle.elf_emit.proofs.Loads.{written_file_loads}
 use Rattle.elf_emit.proofs.Source.{HasPlace, SharesNone, memory_of, AreOfProgram, of_program, length_zeros}

@@ -4,16 +4,13 @@ use Rattle.std.specs.List.{All}
 use Rattle.std.proofs.lemmas.List.{append_assoc, append-nil, length-append, take_all}
 use Rattle.std.proofs.lemmas.List.Sums.{sum_by-take-le}
 use Rattle.space.specs.declared.program.Kind.TheVariants.{PowerPc, Ia32}
-use Rattle.elf_load.specs.Headers.{header, header_count, SharesAddress}
+use Rattle.elf_load.specs.Prelude.{header, header_count, SharesAddress, segments_before, segments_of, IsFirstHeader, HasOneCode, Passes, IsProgramOf}
 use Rattle.elf_load.specs.Headers as load
-use Rattle.elf_load.specs.Program.{segments_before, segments_of}
-use Rattle.elf_load.specs.Faults.{IsFirstHeader, HasOneCode, Passes, IsProgramOf}
 use Rattle.elf_load.specs.declared.headers.ProgramHeader.{ProgramHeader}
 use Rattle.elf_load.specs.declared.faults.HeaderRule.TheVariants as header_rule
 use Rattle.elf_load.specs.declared.refusal.ElfRefusal.{ElfRefusal}
 use Rattle.elf_load.specs.declared.refusal.ElfRefusal.TheVariants as refusal
-use Rattle.elf_emit.specs.File.{FileSegment, file_header, program_headers, contents, headers_end, elf_file}
-use Rattle.elf_emit.specs.Loaded.{in_memory, is_code, IsSound, AreLoadable, program_of}
+use Rattle.elf_emit.specs.Prelude.{FileSegment, file_header, program_headers, contents, headers_end, elf_file, in_memory, is_code, IsSound, AreLoadable, program_of}
 use Rattle.elf_emit.proofs.Fields.{HasFields, has_fields}
 use Rattle.elf_emit.proofs.Described.{IsDescribed, described_in_file, length_headers}
 use Rattle.elf_emit.proofs.LaidOut.{AreDescribed, nothing, code_header, memory_is, segments_are, code_is_found}

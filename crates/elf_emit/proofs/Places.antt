@@ -5,9 +5,8 @@ use Rattle.std.specs.List.{suffix_len}
 use Rattle.std.proofs.lemmas.Bool.{ne_eqb, eq-eqb}
 use Rattle.std.proofs.lemmas.List.{length-replicate, get_or-replicate}
 use Rattle.std.proofs.lemmas.List.Sums.{suffix_len_is}
-use Rattle.elf_load.specs.Program.{zeros, stack}
-use Rattle.elf_emit.specs.File.{FileSegment, IsLeastOffset, offset_of}
-use Rattle.elf_emit.specs.Translation.{kept}
+use Rattle.elf_load.specs.Prelude.{zeros, stack}
+use Rattle.elf_emit.specs.Prelude.{FileSegment, IsLeastOffset, offset_of, kept}
 
 least_by : (b : Bool) (s : FileSegment) (end : ℕ) → b ≡ false → IsLeastOffset s end (if b then 0 else end + (s.at + (4096 - end % 4096)) % 4096)
 least_by true s end e = cc

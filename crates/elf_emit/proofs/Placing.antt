@@ -4,12 +4,8 @@ use Rattle.std.specs.List.{All, sum_by}
 use Rattle.std.proofs.lemmas.List.{append-nil, drop_more, drop_all, length-map}
 use Rattle.std.proofs.lemmas.List.Elements.{All-head, All-tail}
 use Rattle.std.proofs.lemmas.List.Sums.{sum_by-cons}
-use Rattle.elf_load.specs.Program.{zeros}
-use Rattle.elf_emit.specs.File.{FileSegment, word, file_header, elf_file, program_header, program_headers, contents, headers_end, offset_of, end_of}
-use Rattle.elf_emit.specs.Loaded.{IsSound}
-use Rattle.elf_emit.specs.Parts.{shown, all_shown, AreFew}
-use Rattle.elf_emit.specs.Translation.{home_page}
-use Rattle.elf_emit.specs.declared.part.Part.{Part}
+use Rattle.elf_load.specs.Prelude.{zeros}
+use Rattle.elf_emit.specs.Prelude.{FileSegment, word, file_header, elf_file, program_header, program_headers, contents, headers_end, offset_of, end_of, IsSound, shown, all_shown, AreFew, home_page, Part}
 
 -- what is left from a place on begins with the segment there
 left_from : (parts : List Part) (i : ℕ) (d : Part) → i < length parts

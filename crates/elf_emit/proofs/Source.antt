@@ -10,9 +10,7 @@ use Rattle.std.proofs.lemmas.List.Sums.{sum_by_push}
 use Rattle.space.specs.declared.program.Kind.TheVariants.{PowerPc}
 use Rattle.space.specs.declared.program.Segment.{Segment}
 use Rattle.space.specs.declared.program.Program.{Program}
-use Rattle.elf_load.specs.Headers.{header, header_count, header_offset, is_load, is_segment, SharesAddress}
-use Rattle.elf_load.specs.Program.{zeros, segment_of, segments_before, stack}
-use Rattle.elf_load.specs.Faults.{Breaks, IsFirstHeader, IsProgramOf, memory_before}
+use Rattle.elf_load.specs.Prelude.{header, header_count, header_offset, is_load, is_segment, SharesAddress, zeros, segment_of, segments_before, stack, Breaks, IsFirstHeader, IsProgramOf, memory_before}
 use Rattle.elf_load.specs.declared.headers.ProgramHeader.{ProgramHeader}
 use Rattle.elf_load.specs.declared.faults.HeaderRule.{HeaderRule}
 use Rattle.elf_load.specs.declared.faults.HeaderRule.TheVariants as header_rule

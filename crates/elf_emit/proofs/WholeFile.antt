@@ -7,12 +7,8 @@ use Rattle.space.specs.declared.program.Kind.TheVariants.{PowerPc, Ia32}
 use Rattle.space.specs.declared.program.Segment.{Segment}
 use Rattle.space.specs.declared.program.Program.{Program}
 use Rattle.branch_table.specs.declared.code.Code.{Code}
-use Rattle.elf_load.specs.Area.{IsArea}
-use Rattle.elf_load.specs.Faults.{IsProgramOf}
-use Rattle.elf_emit.specs.File.{FileSegment, elf_file}
-use Rattle.elf_emit.specs.Parts.{shown, all_shown, AreFew}
-use Rattle.elf_emit.specs.Translation.{source, whole, home, table, ops, file_segments, translated, FitsArea}
-use Rattle.elf_emit.specs.declared.part.Part.{Part}
+use Rattle.elf_load.specs.Prelude.{IsArea, IsProgramOf}
+use Rattle.elf_emit.specs.Prelude.{FileSegment, elf_file, shown, all_shown, AreFew, source, whole, home, table, ops, file_segments, translated, FitsArea, Part}
 use Rattle.elf_emit.proofs.Loadable.{file_segments_load, file_loads}
 use Rattle.elf_emit.proofs.Placing.{bytes_within}
 use Rattle.elf_emit.proofs.Source.{HasPlace, of_program}

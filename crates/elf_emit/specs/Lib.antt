@@ -2,3 +2,4 @@ pub mod File
 pub mod Loaded
 pub mod Translation
 pub mod Parts
+pub mod Prelude

@@ -5,8 +5,7 @@ use Rattle.std.specs.Prelude.{◌++◌}
 use Rattle.space.specs.declared.program.Kind.TheVariants.{Ia32}
 use Rattle.space.specs.declared.program.Segment.{Segment}
 use Rattle.space.specs.declared.program.Program.{Program}
-use Rattle.elf_load.specs.Headers.{SharesAddress}
-use Rattle.elf_load.specs.Program.{zeros}
+use Rattle.elf_load.specs.Prelude.{SharesAddress, zeros}
 use Rattle.elf_emit.specs.File.{FileSegment}
 
 -- what the segment is in memory: its bytes, and then zeros

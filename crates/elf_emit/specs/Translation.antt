@@ -6,7 +6,7 @@ use Rattle.space.specs.declared.program.Kind.TheVariants.{Ia32}
 use Rattle.space.specs.declared.program.Segment.{Segment}
 use Rattle.space.specs.declared.program.Program.{Program}
 use Rattle.branch_table.specs.declared.code.Code.{Code}
-use Rattle.elf_load.specs.Program.{zeros, is_code_segment}
+use Rattle.elf_load.specs.Prelude.{zeros, is_code_segment}
 use Rattle.elf_emit.specs.File.{FileSegment, word}
 
 -- how many bytes of a segment of the program the file has: all of the code, and of another those before the zeros at its end

@@ -1,8 +1,7 @@
 //! What the definitions of the written file say of the program that it lays out.
 ghost use Rattle.std.specs.Prelude.{◌≡◌, ℕ, ◌<◌, ◌^◌, List, length};
 ghost use Rattle.space.specs.declared.program.Kind.TheVariants.{Ia32};
-ghost use Rattle.elf_load.specs.Faults.{IsProgramOf};
-ghost use Rattle.elf_load.specs.Program.{stack};
+ghost use Rattle.elf_load.specs.Prelude.{IsProgramOf, stack};
 ghost use Rattle.elf_emit.specs.File.{FileSegment, IsLeastOffset, elf_file, offset_of};
 ghost use Rattle.elf_emit.specs.Loaded.{AreLoadable, program_of};
 ghost use Rattle.elf_emit.specs.Translation.{kept};

@@ -7,10 +7,7 @@ use Rattle.std.proofs.lemmas.List.Elements.{Contains-append_left, Contains-appen
 use borrow.Author.Tests.{ltb-false}
 use Rattle.space.specs.declared.program.Kind.{Kind}
 use Rattle.space.specs.declared.program.Segment.{Segment}
-use Rattle.elf_load.specs.Headers.{header, header_count, is_segment, is_code}
-use Rattle.elf_load.specs.Program.{segment_of, segments_before, segments_of, stack_for, is_code_segment}
-use Rattle.elf_load.specs.Faults.{PassesBelow, HasOneCode}
-use Rattle.elf_load.specs.declared.headers.ProgramHeader.{ProgramHeader}
+use Rattle.elf_load.specs.Prelude.{header, header_count, is_segment, is_code, segment_of, segments_before, segments_of, stack_for, is_code_segment, PassesBelow, HasOneCode, ProgramHeader}
 use Rattle.elf_load.specs.declared.refusal.ElfRefusal.TheVariants as refusal
 
 not_chosen : (b : Bool) (i : ℕ) → None ≡ cond b (Some i) None → b ≡ false

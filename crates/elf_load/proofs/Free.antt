@@ -5,7 +5,7 @@ use Rattle.std.specs.List.{Contains}
 use Rattle.std.proofs.lemmas.List.{get_or_default}
 use Rattle.std.proofs.lemmas.List.Elements.{All-contains}
 use Rattle.space.specs.declared.program.Segment.{Segment}
-use Rattle.elf_load.specs.Area.{IsArea, MeetsArea}
+use Rattle.elf_load.specs.Prelude.{IsArea, MeetsArea}
 
 -- what holds of each element below i and of the one at i holds of each below i + 1
 pub below_next : {X : Type 0} (P : X → Type 0) (xs : List X) (i : ℕ) (x : X) → ((k : ℕ) (d : X) → k < i → P (get_or xs k d))

@@ -11,12 +11,8 @@ use Rattle.space.specs.declared.program.Kind.{Kind}
 use Rattle.space.specs.declared.program.Kind.TheVariants.{PowerPc, Ia32}
 use Rattle.space.specs.declared.program.Segment.{Segment}
 use Rattle.space.specs.Memory.{has_address, AreApart}
-use Rattle.elf_load.specs.Headers.{header, header_count, is_segment}
-use Rattle.elf_load.specs.Program.{segment_of, segments_before, stack, segments_of, is_code_segment}
-use Rattle.elf_load.specs.Faults.{Passes}
-use Rattle.elf_load.specs.Loaded.{LoadedIsApart, LoadedCodeIsClosed}
+use Rattle.elf_load.specs.Prelude.{header, header_count, is_segment, segment_of, segments_before, stack, segments_of, is_code_segment, Passes, LoadedIsApart, LoadedCodeIsClosed, ElfRefusal}
 use Rattle.elf_load.specs.declared.faults.HeaderRule.TheVariants as header_rule
-use Rattle.elf_load.specs.declared.refusal.ElfRefusal.{ElfRefusal}
 use Rattle.elf_load.specs.declared.refusal.ElfRefusal.TheVariants as refusal
 use Rattle.elf_load.proofs.Tried.{none_breaks, lies_inside}
 use Rattle.elf_load.proofs.LowCode.{zeros-length, segment_length}

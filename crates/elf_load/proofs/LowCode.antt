@@ -10,13 +10,8 @@ use Rattle.space.specs.declared.program.Kind.{Kind}
 use Rattle.space.specs.declared.program.Kind.TheVariants.{PowerPc, Ia32}
 use Rattle.space.specs.declared.program.Segment.{Segment}
 use Rattle.space.specs.declared.program.Program.{Program}
-use Rattle.elf_load.specs.Headers.{header, header_count, is_load, is_segment}
-use Rattle.elf_load.specs.declared.headers.ProgramHeader.{ProgramHeader}
-use Rattle.elf_load.specs.Program.{zeros, segment_of, segments_before, segments_of, stack, stack_for, is_code_segment}
-use Rattle.elf_load.specs.Faults.{Passes, IsProgramOf}
-use Rattle.elf_load.specs.Code.{HasLowCode}
+use Rattle.elf_load.specs.Prelude.{header, header_count, is_load, is_segment, ProgramHeader, zeros, segment_of, segments_before, segments_of, stack, stack_for, is_code_segment, Passes, IsProgramOf, HasLowCode, ElfRefusal}
 use Rattle.elf_load.specs.declared.faults.HeaderRule.TheVariants as header_rule
-use Rattle.elf_load.specs.declared.refusal.ElfRefusal.{ElfRefusal}
 use Rattle.elf_load.specs.declared.refusal.ElfRefusal.TheVariants as refusal
 use Rattle.elf_load.proofs.Tried.{none_breaks, le_of_not-lt, load_of}
 

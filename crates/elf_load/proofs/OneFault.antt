@@ -2,12 +2,8 @@
 use Rattle.std.proofs.Common.{◌≡◌, ℕ, inl, inr, List, sym, ◌∙◌, ap, subst}
 use Rattle.std.proofs.lemmas.Bool.{cases_order}
 use Rattle.space.specs.declared.program.Kind.{Kind}
-use Rattle.elf_load.specs.Headers.{header_offset}
-use Rattle.elf_load.specs.Faults.{Fails, IsFirstHeader, IsFirstFault}
-use Rattle.elf_load.specs.Rules.{number_of}
-use Rattle.elf_load.specs.declared.faults.HeaderRule.{HeaderRule}
+use Rattle.elf_load.specs.Prelude.{header_offset, Fails, IsFirstHeader, IsFirstFault, number_of, HeaderRule, ElfRefusal}
 use Rattle.elf_load.specs.declared.faults.HeaderRule.TheVariants as header_rule
-use Rattle.elf_load.specs.declared.refusal.ElfRefusal.{ElfRefusal}
 use Rattle.elf_load.specs.declared.refusal.ElfRefusal.TheVariants as refusal
 use Rattle.elf_load.proofs.Tried.{number_of-injective}
 

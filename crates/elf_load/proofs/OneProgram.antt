@@ -4,7 +4,7 @@ use Rattle.space.specs.declared.program.Segment.{Segment}
 use Rattle.std.specs.List.{position}
 use Rattle.space.specs.declared.program.Kind.{Kind}
 use Rattle.space.specs.declared.program.Program.{Program}
-use Rattle.elf_load.specs.Program.{IsLaidOut, is_code_segment}
+use Rattle.elf_load.specs.Prelude.{IsLaidOut, is_code_segment}
 
 some_one : (m n : ℕ) → Some m ≡ Some n → m ≡ n
 some_one m n e = cc

@@ -1,11 +1,8 @@
 -- What one more header adds to what the headers before it ask for and make.
 use Rattle.std.proofs.Common.{◌≡◌, ℕ, ◌+◌, ◌++◌, List, [], ◌∷◌, refl, sym, ◌∙◌, ap, subst, Bool, true, false, add-one, append-nil}
-use Rattle.elf_load.specs.declared.headers.ProgramHeader.{ProgramHeader}
+use Rattle.elf_load.specs.Prelude.{ProgramHeader, header, is_load, is_segment, memory_before, segments_before, segment_of}
 use Rattle.std.specs.Prelude.{if◌then◌else◌}
 use Rattle.space.specs.declared.program.Kind.{Kind}
-use Rattle.elf_load.specs.Headers.{header, is_load, is_segment}
-use Rattle.elf_load.specs.Faults.{memory_before}
-use Rattle.elf_load.specs.Program.{segments_before, segment_of}
 
 pub memory_before-zero : (kind : Kind) (bytes : List ℕ) → memory_before kind bytes 0 ≡ 0
 unfolding memory_before

@@ -2,13 +2,8 @@
 use Rattle.std.proofs.Common.{◌≡◌, ℕ, zero, suc, ◌+◌, ◌<◌, ◌≤◌, true, List, length, refl, subst, sym, ◌∙◌, ap, arith, below_more, lit<}
 use Rattle.std.specs.Prelude.{◌==◌, if◌then◌else◌, IsTrue}
 use Rattle.space.specs.declared.program.Kind.{Kind}
-use Rattle.elf_load.specs.Headers.{header, header_count, header_offset, HasTable, is_load, is_segment}
-use Rattle.elf_load.specs.declared.headers.ProgramHeader.{ProgramHeader}
-use Rattle.elf_load.specs.Faults.{Passes, PassesBelow, IsFirstHeader, Breaks}
-use Rattle.elf_load.specs.Rules.{number_of}
-use Rattle.elf_load.specs.declared.faults.HeaderRule.{HeaderRule}
+use Rattle.elf_load.specs.Prelude.{header, header_count, header_offset, HasTable, is_load, is_segment, ProgramHeader, Passes, PassesBelow, IsFirstHeader, Breaks, number_of, HeaderRule, ElfRefusal}
 use Rattle.elf_load.specs.declared.faults.HeaderRule.TheVariants as header_rule
-use Rattle.elf_load.specs.declared.refusal.ElfRefusal.{ElfRefusal}
 use Rattle.elf_load.specs.declared.refusal.ElfRefusal.TheVariants as refusal
 
 abbrev rule_at : ℕ → ElfRefusal

@@ -6,3 +6,4 @@ pub mod Faults
 pub mod Area
 pub mod Code
 pub mod Loaded
+pub mod Prelude

@@ -1,6 +1,6 @@
 // A program of three segments, and its file, whose headers and places an outside script laid out.
 ghost use Rattle.std.specs.Prelude.{IfOk};
-ghost use Rattle.elf_emit.specs.Translation.{FitsArea};
+ghost use Rattle.elf_emit.specs.Prelude.{FitsArea};
 
 use branch_table::{Code, CodeBytes, Entries};
 use elf_emit::file;

@@ -5,10 +5,9 @@ use Rattle.std.proofs.lemmas.Nat.{and_mask}
 use Rattle.std.proofs.lemmas.Nat.Bits.{bit_at_and}
 use Rattle.std.specs.Int.{bit_at}
 use Rattle.std.proofs.lemmas.Bool.Decides.{nat_tests}
-use Rattle.word_kit.specs.Words.{one_if, is_negative}
-use Rattle.word_kit.specs.Bits.{bit_of, with_bit, word_and, shifted_arith}
+use Rattle.word_kit.specs.Prelude.{one_if, is_negative, bit_of, with_bit, word_and, shifted_arith}
 use Rattle.word_kit.proofs.BitSums.{of_bits-is}
-use Rattle.ia_codec.specs.Products.{sign_copies}
+use Rattle.ia_codec.specs.Prelude.{sign_copies}
 
 -- the top bit is the sign
 pub sign_is : (x : ℕ) → x < 2 ^ 32 → bit_of x 31 ≡ is_negative x

@@ -9,10 +9,7 @@ use Rattle.ia_codec.specs.declared.op.UnaryOp.TheVariants.{Not, Neg, Mul, Imul1,
 use Rattle.ia_codec.specs.declared.op.ExtendOp.TheVariants.{MovzxByte, MovzxHalf, MovsxByte, MovsxHalf}
 use Rattle.ia_codec.specs.declared.op.Op.{Op}
 use Rattle.ia_codec.specs.declared.op.Op.TheVariants.{AluTo, AluFrom, AluImm, TestReg, TestImm, Unary, Imul, MovTo, MovFrom, MovImm, MovToImm, MovHalfTo, MovByteTo, MovByteFrom, Shift, ShiftByCl, Lea, Extend, Bswap, Set, Cmov, Bsr, Cdq, Jcc, Jmp, JmpTo, Int80, Int3, Ud2}
-use Rattle.ia_codec.specs.Effect.{Flags, HostValues}
-use Rattle.ia_codec.specs.Shifts.{shift_result, shift_overflow, shift_flags}
-use Rattle.ia_codec.specs.Scan.{highest_one}
-use Rattle.ia_codec.specs.Rows.{host_row, alu_row, shift_row, divide_row}
+use Rattle.ia_codec.specs.Prelude.{Flags, HostValues, shift_result, shift_overflow, shift_flags, highest_one, host_row, alu_row, shift_row, divide_row}
 use Rattle.ia_alu.specs.Undefined.{FlagName, CF, ZF, SF, OF, flag, is_undefined, is_result_undefined, shift_leaves, DefinedIsNotChosen, UndefinedFlagIsChosen, UndefinedResultIsChosen}
 use Rattle.ia_alu.proofs.Told.{told}
 

@@ -4,9 +4,8 @@ use Rattle.std.proofs.Math.Nat.{mul-le-mul, add-mul, mul_comm}
 use Rattle.std.proofs.Math.Decide.{dec_le}
 use Rattle.std.proofs.lemmas.Bool.Decides.{nat_tests}
 use Rattle.std.proofs.lemmas.Int.{ints, unsigned_abs-mul}
-use Rattle.word_kit.specs.Words.{signed, two_complement}
-use Rattle.word_kit.specs.Products.{product_low, product_high, fits_word}
-use Rattle.ia_codec.specs.Products.{sign_copies}
+use Rattle.word_kit.specs.Prelude.{signed, two_complement, product_low, product_high, fits_word}
+use Rattle.ia_codec.specs.Prelude.{sign_copies}
 
 -- the low half of 64 bits that stand for a number
 low_half : ℤ → ℕ

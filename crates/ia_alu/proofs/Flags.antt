@@ -1,7 +1,7 @@
 -- Flags of sums and differences of plain words.
 use Rattle.std.proofs.Common.{◌≡◌, ℕ, ◌+◌, ◌<◌, ◌^◌, refl, Bool, true, false, not, ◌&&◌, ltb, arith}
 use Rattle.std.proofs.lemmas.Bool.Decides.{nat_tests}
-use Rattle.word_kit.specs.Words.{one_if, same, complement, sum_word, sum_carries, difference_word}
+use Rattle.word_kit.specs.Prelude.{one_if, same, complement, sum_word, sum_carries, difference_word}
 
 pub not_not : (b : Bool) → not (not b) ≡ b
 not_not true = refl

@@ -1,14 +1,9 @@
 -- The term of each row over plain words is the row.
 use Rattle.std.proofs.Common.{◌≡◌, ℕ, zero, suc, ◌%◌, ◌^◌, ◌<◌, refl, ap, ◌∙◌, Bool, true, false, cond, not, eqb, arith}
 use Rattle.std.proofs.lemmas.Bool.Decides.{nat_tests}
-use Rattle.word_kit.specs.Words.{one_if, sign_extended}
-use Rattle.word_kit.specs.Bits.{bit_of, byte_of, joined, shifted_left, shifted_arith}
-use Rattle.word_kit.specs.Products.{product_low, product_high}
-use Rattle.word_kit.specs.PlainOperations.{plain_operations}
-use Rattle.ia_codec.specs.Rows.{host_row, condition_holds}
-use Rattle.ia_codec.specs.Spelling.{IsInProfile}
+use Rattle.word_kit.specs.Prelude.{one_if, sign_extended, bit_of, byte_of, joined, shifted_left, shifted_arith, product_low, product_high, plain_operations}
+use Rattle.ia_codec.specs.Prelude.{host_row, condition_holds, IsInProfile, highest_one}
 use Rattle.ia_alu.proofs.Fits.{fits_is}
-use Rattle.ia_codec.specs.Scan.{highest_one}
 use Rattle.ia_codec.specs.declared.op.UnaryOp.TheVariants.{Not, Neg, Mul, Imul1, Div, Idiv}
 use Rattle.ia_codec.specs.declared.op.ExtendOp.TheVariants.{MovzxByte, MovzxHalf, MovsxByte, MovsxHalf}
 use Rattle.ia_codec.specs.declared.op.Condition.{Condition}

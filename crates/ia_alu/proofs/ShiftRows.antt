@@ -4,12 +4,9 @@ use Rattle.std.proofs.Math.Nat.{mod-lt, mul-div_cancel, div-div-eq-div-mul, div-
 use Rattle.std.proofs.Math.Pow.{pow_pos}
 use Rattle.std.proofs.lemmas.Nat.{pow-add}
 use Rattle.std.proofs.lemmas.Bool.Decides.{nat_tests}
-use Rattle.word_kit.specs.Words.{same, is_negative, complement, sum_word}
-use Rattle.word_kit.specs.Bits.{bit_of, with_bit, word_and, shifted_left, shifted_right, shifted_arith, rotated}
-use Rattle.word_kit.specs.PlainOperations.{plain_operations}
+use Rattle.word_kit.specs.Prelude.{same, is_negative, complement, sum_word, bit_of, with_bit, word_and, shifted_left, shifted_right, shifted_arith, rotated, plain_operations}
 use Rattle.word_kit.proofs.Rooms.{turned}
-use Rattle.ia_codec.specs.Rows.{shift_row}
-use Rattle.ia_codec.specs.Shifts.{shift_result, shift_carry, shift_overflow, is_rotate}
+use Rattle.ia_codec.specs.Prelude.{shift_row, shift_result, shift_carry, shift_overflow, is_rotate}
 use Rattle.ia_codec.specs.declared.op.ShiftOp.{ShiftOp}
 use Rattle.ia_codec.specs.declared.op.ShiftOp.TheVariants.{Rol, Ror, Shl, Shr, Sar}
 use Rattle.ia_alu.specs.declared.given.HostIn.{HostIn}

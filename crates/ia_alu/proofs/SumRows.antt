@@ -3,14 +3,11 @@ use Rattle.std.proofs.Common.{◌≡◌, ℕ, ◌^◌, ◌<◌, refl, ap, ◌∙
 use Rattle.std.specs.Int.Bits.{and_lt}
 use Rattle.std.proofs.lemmas.Nat.{or_lt, xor_lt}
 use Rattle.std.proofs.lemmas.Bool.Decides.{nat_tests}
-use Rattle.word_kit.specs.Words.{same, is_negative, complement, sum_word, sum_carries, difference_word}
-use Rattle.word_kit.specs.Bits.{bit_of, word_and, word_or, word_xor}
-use Rattle.word_kit.specs.PlainOperations.{plain_operations}
+use Rattle.word_kit.specs.Prelude.{same, is_negative, complement, sum_word, sum_carries, difference_word, bit_of, word_and, word_or, word_xor, plain_operations}
 use Rattle.word_kit.proofs.BitSums.{word_and-is, word_or-is, word_xor-is}
-use Rattle.ia_codec.specs.Rows.{alu_row, test_row, gives, sum_flags, difference_flags, logic_flags}
+use Rattle.ia_codec.specs.Prelude.{alu_row, test_row, gives, sum_flags, difference_flags, logic_flags, HostEffect as Outcome}
 use Rattle.ia_codec.specs.declared.op.AluOp.{AluOp}
 use Rattle.ia_codec.specs.declared.op.AluOp.TheVariants.{Add, Or, Adc, Sbb, And, Sub, Xor, Cmp}
-use Rattle.ia_codec.specs.Effect.{HostEffect as Outcome}
 use Rattle.ia_alu.specs.declared.given.HostIn.{HostIn}
 use Rattle.ia_alu.specs.Values.{values_of, outcome_of}
 use Rattle.ia_alu.specs.Terms.{sum_term, difference_term, compare_term, logic_term, test_term, alu_term}

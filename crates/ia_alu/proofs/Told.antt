@@ -1,6 +1,6 @@
 -- An outcome by its parts.
 use Rattle.std.proofs.Common.{◌≡◌, ℕ, Bool}
-use Rattle.ia_codec.specs.Effect.{HostEffect as Outcome}
+use Rattle.ia_codec.specs.Prelude.{HostEffect as Outcome}
 
 abbrev pub told : ℕ → ℕ → Bool → Bool → Bool → Bool → Bool → Bool → Outcome
 told result high cf zf sf of holds faults = record { result = result; high = high; flags = record { cf = cf; zf = zf; sf = sf; of = of }; holds = holds; faults = faults }

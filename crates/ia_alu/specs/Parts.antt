@@ -1,6 +1,6 @@
 -- Parts of terms, over any operations: what is made of what was held.
 use Rattle.std.specs.Prelude.{ℕ, zero, suc, false}
-use Rattle.word_kit.specs.Operations.{Operations, WordMade, FlagMade}
+use Rattle.word_kit.specs.Prelude.{Operations, WordMade, FlagMade}
 
 module _ {W B H : Type 0} (ops : Operations W B H) where
   -- the flag c where b is true, else d

@@ -1,7 +1,7 @@
 -- The term of each row over any operations: what is made of what was held, in the order result, CF, ZF, SF, OF.
 -- The operands are the values of the op; no term has an immediate or a displacement but a shift's written count.
 use Rattle.std.specs.Prelude.{ℕ, true, false, Bool}
-use Rattle.word_kit.specs.Operations.{Operations, WordMade, FlagMade}
+use Rattle.word_kit.specs.Prelude.{Operations, WordMade, FlagMade}
 use Rattle.ia_codec.specs.declared.op.AluOp.{AluOp}
 use Rattle.ia_codec.specs.declared.op.AluOp.TheVariants.{Add, Or, Adc, Sbb, And, Sub, Xor, Cmp}
 use Rattle.ia_codec.specs.declared.op.ShiftOp.{ShiftOp}

@@ -5,8 +5,7 @@ use Rattle.ia_codec.specs.declared.op.UnaryOp.{UnaryOp}
 use Rattle.ia_codec.specs.declared.op.UnaryOp.TheVariants.{Not, Neg, Mul, Imul1, Div, Idiv}
 use Rattle.ia_codec.specs.declared.op.Op.{Op}
 use Rattle.ia_codec.specs.declared.op.Op.TheVariants.{Unary, Imul, Shift, ShiftByCl, Bsr}
-use Rattle.ia_codec.specs.Effect.{Flags, HostValues}
-use Rattle.ia_codec.specs.Rows.{host_row}
+use Rattle.ia_codec.specs.Prelude.{Flags, HostValues, host_row}
 
 pub data FlagName : Type 0 where
   CF : FlagName

@@ -1,7 +1,7 @@
 -- What the values of an algebra mean as numbers and truths, and which of them the algebra owns.
 use Rattle.std.specs.Prelude.{◌≡◌, ℕ, ◌≤◌, Bool, true, false}
 use Rattle.word_kit.specs.declared.algebra.Alg.{Ghosts}
-use Rattle.ia_codec.specs.Effect.{HostValues, HostEffect as Outcome}
+use Rattle.ia_codec.specs.Prelude.{HostValues, HostEffect as Outcome}
 use Rattle.ia_codec.specs.declared.op.UnaryOp.{UnaryOp}
 use Rattle.ia_codec.specs.declared.op.UnaryOp.TheVariants.{Not, Neg, Mul, Imul1, Div, Idiv}
 use Rattle.ia_codec.specs.declared.op.Op.{Op}

@@ -1,8 +1,8 @@
 //! Conditions: jcc, setcc, cmovcc, and jumps without one.
 
 ghost use Rattle.std.specs.Prelude.{◌≡◌, IfOk, OnErr, IsTrue};
-ghost use Rattle.word_kit.specs.Algebra.{IsLater, GivesFlag};
-ghost use Rattle.word_kit.specs.PlainOperations.{plain_operations};
+ghost use Rattle.word_kit.specs.Prelude.{GivesFlag, plain_operations};
+ghost use Rattle.word_kit.specs.Algebra.{IsLater};
 ghost use Rattle.ia_alu.specs.Values.{IsOwned, meant, GivesEffect};
 ghost use Rattle.ia_alu.specs.Terms.{condition_term, set_term, cmov_term, jcc_term, jump_term};
 

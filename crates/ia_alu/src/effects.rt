@@ -2,8 +2,7 @@
 
 ghost use Rattle.std.specs.Prelude.{◌≡◌, false, IfOk, OnErr, IsTrue};
 ghost use Rattle.word_kit.specs.Algebra.{MayUntie};
-ghost use Rattle.ia_codec.specs.Rows.{host_row};
-ghost use Rattle.ia_codec.specs.Spelling.{IsInProfile};
+ghost use Rattle.ia_codec.specs.Prelude.{host_row, IsInProfile};
 ghost use Rattle.ia_alu.specs.Values.{IsOwned, is_product, values_of, GivesOutcome};
 ghost use Rattle.ia_alu.specs.Terms.{row_term};
 

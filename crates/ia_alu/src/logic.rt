@@ -2,7 +2,7 @@
 
 ghost use Rattle.std.specs.Prelude.{◌≡◌, ◌≤◌, IfOk, OnErr, IsTrue};
 ghost use Rattle.word_kit.specs.Algebra.{IsLater};
-ghost use Rattle.word_kit.specs.PlainOperations.{plain_operations};
+ghost use Rattle.word_kit.specs.Prelude.{plain_operations};
 ghost use Rattle.ia_alu.specs.Values.{IsOwned, meant, GivesEffect};
 ghost use Rattle.ia_alu.specs.Terms.{logic_term, test_term, alu_term};
 

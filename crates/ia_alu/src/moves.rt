@@ -2,7 +2,7 @@
 
 ghost use Rattle.std.specs.Prelude.{◌≡◌, ◌≤◌, ℕ, Bool, IfOk, OnErr, IsTrue};
 ghost use Rattle.word_kit.specs.Algebra.{IsLater};
-ghost use Rattle.word_kit.specs.PlainOperations.{plain_operations};
+ghost use Rattle.word_kit.specs.Prelude.{plain_operations};
 ghost use Rattle.ia_alu.specs.Values.{IsOwned, IsEffectOwned, meant, effect_meant, GivesEffect};
 ghost use Rattle.ia_alu.specs.Terms.{kept_term, moved_term, signed_term, extend_term, copies_term};
 ghost use Rattle.ia_alu.specs.Parts.{byte_term, half_term, swapped_term};

@@ -1,8 +1,8 @@
 //! Flags that several rows make.
 
 ghost use Rattle.std.specs.Prelude.{◌≡◌, ◌≤◌, IfOk, OnErr, IsTrue};
-ghost use Rattle.word_kit.specs.Algebra.{IsLater, GivesFlag};
-ghost use Rattle.word_kit.specs.PlainOperations.{plain_operations};
+ghost use Rattle.word_kit.specs.Prelude.{GivesFlag, plain_operations};
+ghost use Rattle.word_kit.specs.Algebra.{IsLater};
 ghost use Rattle.ia_alu.specs.Parts.{choose_term, zero_term, overflow_term, count_term, last_left_term, last_right_term, zero_after_term, over_after_term};
 
 use word_kit::{Alg, NoMemory};

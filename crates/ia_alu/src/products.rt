@@ -2,7 +2,7 @@
 
 ghost use Rattle.std.specs.Prelude.{◌≡◌, ◌≤◌, ℕ, Bool, IfOk, OnErr, IsTrue};
 ghost use Rattle.word_kit.specs.Algebra.{MayUntie};
-ghost use Rattle.word_kit.specs.PlainOperations.{plain_operations};
+ghost use Rattle.word_kit.specs.Prelude.{plain_operations};
 ghost use Rattle.ia_alu.specs.Values.{IsOwned, IsEffectOwned, meant, effect_meant, GivesEffect};
 ghost use Rattle.ia_alu.specs.Terms.{product_term, mul_term, imul1_term, imul_term, divide_term};
 

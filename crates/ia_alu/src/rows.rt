@@ -2,7 +2,7 @@
 
 ghost use Rattle.std.specs.Prelude.{◌≡◌, false, IfOk, OnErr, IsTrue};
 ghost use Rattle.word_kit.specs.Algebra.{IsLater, MayUntie};
-ghost use Rattle.word_kit.specs.PlainOperations.{plain_operations};
+ghost use Rattle.word_kit.specs.Prelude.{plain_operations};
 ghost use Rattle.ia_alu.specs.Values.{IsOwned, is_product, is_product_of_one, meant, GivesEffect};
 ghost use Rattle.ia_alu.specs.Terms.{moved_term, unary_term, shift_term, row_term};
 

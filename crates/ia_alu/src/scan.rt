@@ -1,8 +1,8 @@
 //! The bit scan: bsr.
 
 ghost use Rattle.std.specs.Prelude.{◌≡◌, ◌≤◌, IfOk, OnErr, IsTrue};
-ghost use Rattle.word_kit.specs.Algebra.{IsLater, GivesWord};
-ghost use Rattle.word_kit.specs.PlainOperations.{plain_operations};
+ghost use Rattle.word_kit.specs.Prelude.{GivesWord, plain_operations};
+ghost use Rattle.word_kit.specs.Algebra.{IsLater};
 ghost use Rattle.ia_alu.specs.Values.{IsOwned, meant, GivesEffect};
 ghost use Rattle.ia_alu.specs.Terms.{scan_term};
 ghost use Rattle.ia_alu.specs.Parts.{highest_term};

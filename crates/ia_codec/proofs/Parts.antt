@@ -4,10 +4,7 @@ use Rattle.std.proofs.lemmas.Bool.{le-ltb, ne_eqb}
 use Rattle.std.proofs.lemmas.List.{length-append}
 use Rattle.std.specs.Int.{w32, from_le_bytes}
 use Rattle.std.proofs.lemmas.Nat.{from_le_bytes-to_le_bytes_4}
-use Rattle.ia_codec.specs.declared.op.Operand.{Operand}
-use Rattle.ia_codec.specs.declared.op.Operand.TheVariants.{Reg, Abs, Base, Pair}
-use Rattle.ia_codec.specs.Spelling.{packed, dword, modrm, IsOperand}
-use Rattle.ia_codec.specs.Reading.{byte_at, dword_at, modrm_at}
+use Rattle.ia_codec.specs.Prelude.{Operand, Reg, Abs, Base, Pair, packed, dword, modrm, IsOperand, byte_at, dword_at, modrm_at}
 
 pub dword_at-dword : (n : ℕ) (rest : List ℕ) → n < 2 ^ 32 → dword_at (dword n ++ rest) ≡ Some (n, rest)
 unfolding dword_at

@@ -7,13 +7,7 @@ use Rattle.std.proofs.lemmas.Bool.{cases_eq, false≢true}
 use Rattle.std.proofs.lemmas.Bool.Decides.{leb_tells}
 use Rattle.std.proofs.lemmas.Slice.Eq.{bytes_eq-Decides}
 use Rattle.std.proofs.lemmas.List.{length-take}
-use Rattle.ia_codec.specs.declared.op.Operand.{Operand}
-use Rattle.ia_codec.specs.declared.op.Operand.TheVariants.{Reg, Abs, Base, Pair}
-use Rattle.ia_codec.specs.declared.op.ExtendOp.TheVariants.{MovzxByte, MovzxHalf, MovsxByte, MovsxHalf}
-use Rattle.ia_codec.specs.declared.op.Op.{Op}
-use Rattle.ia_codec.specs.declared.op.Op.TheVariants.{AluTo, AluFrom, AluImm, TestReg, TestImm, Unary, Imul, MovTo, MovFrom, MovImm, MovToImm, MovHalfTo, MovByteTo, MovByteFrom, Shift, ShiftByCl, Lea, Extend, Bswap, Set, Cmov, Bsr, Cdq, Jcc, Jmp, JmpTo, Int80, Int3, Ud2}
-use Rattle.ia_codec.specs.Spelling.{spelling, IsSpelt, IsReg, IsOperand, IsMemory, IsSum, IsByte, IsInProfile, IsReading}
-use Rattle.ia_codec.specs.Reading.{read}
+use Rattle.ia_codec.specs.Prelude.{Operand, Reg, Abs, Base, Pair, MovzxByte, MovzxHalf, MovsxByte, MovsxHalf, Op, AluTo, AluFrom, AluImm, TestReg, TestImm, Unary, Imul, MovTo, MovFrom, MovImm, MovToImm, MovHalfTo, MovByteTo, MovByteFrom, Shift, ShiftByCl, Lea, Extend, Bswap, Set, Cmov, Bsr, Cdq, Jcc, Jmp, JmpTo, Int80, Int3, Ud2, spelling, IsSpelt, IsReg, IsOperand, IsMemory, IsSum, IsByte, IsInProfile, IsReading, read}
 use Rattle.ia_codec.proofs.Spelt.{read-spelt, one_spelt, spelt-spelling}
 
 abbrev Settled : Type 0 → Type 0

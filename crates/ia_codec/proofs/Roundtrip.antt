@@ -1,21 +1,6 @@
 -- What was spelled is read again, op by op.
 use Rattle.std.proofs.Common.{◌≡◌, ℕ, ◌+◌, ◌*◌, ◌/◌, ◌%◌, ◌<◌, false, eqb, List, [], ◌∷◌, ◌++◌, Some, refl, ap, ◌∙◌, append_assoc, arith}
-use Rattle.ia_codec.specs.declared.op.Operand.{Operand}
-use Rattle.ia_codec.specs.declared.op.AluOp.{AluOp}
-use Rattle.ia_codec.specs.declared.op.AluOp.TheVariants.{Add, Or, Adc, Sbb, And, Sub, Xor, Cmp}
-use Rattle.ia_codec.specs.declared.op.ShiftOp.{ShiftOp}
-use Rattle.ia_codec.specs.declared.op.ShiftOp.TheVariants.{Rol, Ror, Shl, Shr, Sar}
-use Rattle.ia_codec.specs.declared.op.UnaryOp.{UnaryOp}
-use Rattle.ia_codec.specs.declared.op.UnaryOp.TheVariants.{Not, Neg, Mul, Imul1, Div, Idiv}
-use Rattle.ia_codec.specs.declared.op.ExtendOp.{ExtendOp}
-use Rattle.ia_codec.specs.declared.op.ExtendOp.TheVariants.{MovzxByte, MovzxHalf, MovsxByte, MovsxHalf}
-use Rattle.ia_codec.specs.declared.op.Condition.{Condition}
-use Rattle.ia_codec.specs.declared.op.Condition.TheVariants.{Below, NotBelow, Equal, NotEqual, NotAbove, Above, Sign, NotSign, Less, NotLess, NotGreater, Greater}
-use Rattle.ia_codec.specs.declared.op.Op.{Op}
-use Rattle.ia_codec.specs.declared.op.Op.TheVariants.{AluTo, AluFrom, AluImm, TestReg, TestImm, Unary, Imul, MovTo, MovFrom, MovImm, MovToImm, MovHalfTo, MovByteTo, MovByteFrom, Shift, ShiftByCl, Lea, Extend, Bswap, Set, Cmov, Bsr, Cdq, Jcc, Jmp, JmpTo, Int80, Int3, Ud2}
-use Rattle.ia_codec.specs.Spelling.{dword, modrm, alu_number, shift_number, unary_number, extend_number, condition_number, spelling, IsOperand, IsMemory, IsSum, IsByte, IsInProfile}
-use Rattle.ia_codec.specs.Reading.{byte_at, alu_to_at, alu_from_at, alu_of_number, shift_of_number, alu_imm_at, shift_at, shift_by_cl_at, unary_of_number, after_f7_at, extend_at, condition_of_number, after_66_at, conditional_at, after_0f_at, plain_op, plain_at, mov_to_imm_at, read}
-use Rattle.ia_codec.specs.declared.op.Operand.TheVariants.{Reg, Abs, Base, Pair}
+use Rattle.ia_codec.specs.Prelude.{Operand, AluOp, Add, Or, Adc, Sbb, And, Sub, Xor, Cmp, ShiftOp, Rol, Ror, Shl, Shr, Sar, UnaryOp, Not, Neg, Mul, Imul1, Div, Idiv, ExtendOp, MovzxByte, MovzxHalf, MovsxByte, MovsxHalf, Condition, Below, NotBelow, Equal, NotEqual, NotAbove, Above, Sign, NotSign, Less, NotLess, NotGreater, Greater, Op, AluTo, AluFrom, AluImm, TestReg, TestImm, Unary, Imul, MovTo, MovFrom, MovImm, MovToImm, MovHalfTo, MovByteTo, MovByteFrom, Shift, ShiftByCl, Lea, Extend, Bswap, Set, Cmov, Bsr, Cdq, Jcc, Jmp, JmpTo, Int80, Int3, Ud2, dword, modrm, alu_number, shift_number, unary_number, extend_number, condition_number, spelling, IsOperand, IsMemory, IsSum, IsByte, IsInProfile, byte_at, alu_to_at, alu_from_at, alu_of_number, shift_of_number, alu_imm_at, shift_at, shift_by_cl_at, unary_of_number, after_f7_at, extend_at, condition_of_number, after_66_at, conditional_at, after_0f_at, plain_op, plain_at, mov_to_imm_at, read, Reg, Abs, Base, Pair}
 use Rattle.ia_codec.proofs.Parts.{dword_at-dword, modrm_at-modrm}
 
 memory_is : (m : Operand) → IsMemory m → IsOperand m

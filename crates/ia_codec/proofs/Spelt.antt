@@ -2,9 +2,7 @@
 use Rattle.std.proofs.Common.{◌≡◌, ℕ, List, ◌++◌, length, take, drop, Option, Some, None, refl, sym, ap, subst, ◌∙◌, arith}
 use Rattle.std.proofs.Math.Seq.{take-append_seam}
 use Rattle.std.proofs.lemmas.List.{take-append-drop, length-append, length-take}
-use Rattle.ia_codec.specs.declared.op.Op.{Op}
-use Rattle.ia_codec.specs.Spelling.{spelling, IsSpelt, IsInProfile}
-use Rattle.ia_codec.specs.Reading.{read}
+use Rattle.ia_codec.specs.Prelude.{Op, spelling, IsSpelt, IsInProfile, read}
 use Rattle.ia_codec.proofs.Roundtrip.{read-spelling}
 
 abbrev some : Op × List ℕ → Option (Op × List ℕ)

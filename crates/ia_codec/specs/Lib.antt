@@ -14,3 +14,4 @@ pub mod Conditions
 pub mod Rows
 pub mod RowExamples
 pub mod Registers
+pub mod Prelude

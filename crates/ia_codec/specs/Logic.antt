@@ -1,6 +1,6 @@
 -- Logic: the Intel SDM, volume 2, under AND, OR, XOR and TEST.
 use Rattle.std.specs.Prelude.{ℕ, false, eqb}
-use Rattle.word_kit.specs.Words.{is_negative}
+use Rattle.word_kit.specs.Prelude.{is_negative}
 use Rattle.ia_codec.specs.Effect.{Flags}
 
 -- and, or, xor clear CF and OF

@@ -1,7 +1,6 @@
 -- What moves and extensions make of a value: the Intel SDM, volume 2, under MOVZX, MOVSX, BSWAP and CDQ.
 use Rattle.std.specs.Prelude.{ℕ, ◌%◌, ◌^◌}
-use Rattle.word_kit.specs.Words.{sign_extended}
-use Rattle.word_kit.specs.Bits.{byte_of, joined}
+use Rattle.word_kit.specs.Prelude.{sign_extended, byte_of, joined}
 use Rattle.ia_codec.specs.declared.op.ExtendOp.{ExtendOp}
 use Rattle.ia_codec.specs.declared.op.ExtendOp.TheVariants.{MovzxByte, MovzxHalf, MovsxByte, MovsxHalf}
 

@@ -1,8 +1,7 @@
 -- Products: the Intel SDM, volume 2, under MUL and IMUL. ZF and SF are undefined; for SF behind IMUL that is this project's
 -- own, since editions differ there.
 use Rattle.std.specs.Prelude.{ℕ, ◌-◌, ◌^◌, Bool, true, false, cond, not, eqb, ◌*ℤ◌}
-use Rattle.word_kit.specs.Words.{is_negative, signed}
-use Rattle.word_kit.specs.Products.{product_low, product_high, fits_word}
+use Rattle.word_kit.specs.Prelude.{is_negative, signed, product_low, product_high, fits_word}
 use Rattle.ia_codec.specs.Effect.{Flags, HostValues, HostEffect, unchanged}
 use Rattle.ia_codec.specs.Sums.{gives}
 

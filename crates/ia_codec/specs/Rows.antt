@@ -14,7 +14,7 @@ use Rattle.ia_codec.specs.declared.op.UnaryOp.TheVariants.{Not, Neg, Mul, Imul1,
 use Rattle.ia_codec.specs.declared.op.ExtendOp.TheVariants.{MovzxByte}
 use Rattle.ia_codec.specs.declared.op.Op.{Op}
 use Rattle.ia_codec.specs.declared.op.Op.TheVariants.{AluTo, AluFrom, AluImm, TestReg, TestImm, Unary, Imul, MovTo, MovFrom, MovImm, MovToImm, MovHalfTo, MovByteTo, MovByteFrom, Shift, ShiftByCl, Lea, Extend, Bswap, Set, Cmov, Bsr, Cdq, Jcc, Jmp, JmpTo, Int80, Int3, Ud2}
-use Rattle.word_kit.specs.Words.{complement}
+use Rattle.word_kit.specs.Prelude.{complement}
 pub use Rattle.word_kit.specs.Words.{is_negative, same, one_if, sum_word, sum_carries, difference_word}
 use Rattle.ia_codec.specs.Effect.{HostValues, HostEffect, unchanged}
 pub use Rattle.ia_codec.specs.Sums.{sum_flags, difference_flags, gives}

@@ -1,6 +1,6 @@
 -- The bit scan: the Intel SDM, volume 2, under BSR. Of 0 the result is undefined; CF, SF and OF are undefined always.
 use Rattle.std.specs.Prelude.{ℕ, zero, suc, cond, eqb}
-use Rattle.word_kit.specs.Bits.{bit_of}
+use Rattle.word_kit.specs.Prelude.{bit_of}
 use Rattle.ia_codec.specs.Effect.{HostValues, HostEffect}
 use Rattle.ia_codec.specs.Sums.{gives}
 

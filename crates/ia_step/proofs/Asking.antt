@@ -2,19 +2,9 @@
 use Rattle.std.proofs.Common.{◌≡◌, ℕ, true, false, eqb, ◌-◌, ◌^◌, refl, sym, ◌∙◌, ap, drop, arith}
 use Rattle.std.proofs.lemmas.Bool.Decides.{nat_tests}
 use Rattle.std.specs.Prelude.{slice_index}
-use Rattle.space.specs.declared.call.CallKind.{CallKind}
-use Rattle.space.specs.declared.call.End.TheVariants.{Outside}
-use Rattle.space.specs.declared.call.Event.{Event}
-use Rattle.space.specs.declared.call.Event.TheVariants.{Went, Asked, Ended}
-use Rattle.space.specs.declared.program.Program.{Program}
-use Rattle.machines.specs.Memory.{rights_of}
-use Rattle.machines.specs.Host.{Host, host_system_call}
-use Rattle.ia_step.specs.declared.parts.Parts.{Parts}
-use Rattle.ia_step.specs.declared.state.State.{State}
-use Rattle.ia_step.specs.Shown.{IsCore, IsState, with_reg}
+use Rattle.machines.specs.Prelude.{CallKind, Outside, Event, Went, Asked, Ended, Program, rights_of, Host, host_system_call}
+use Rattle.ia_step.specs.Prelude.{Parts, State, IsCore, IsState, with_reg, asks_for, Leads}
 use Rattle.machine_calls.specs.Calls.{is_buffer}
-use Rattle.ia_step.specs.Calls.{asks_for}
-use Rattle.ia_step.specs.Steps.{Leads}
 use Rattle.ia_step.proofs.Resuming.{reg_is}
 
 module _ (p : Program) (s : State) (h : Host) (k : CallKind) (next fd at count : ℕ) (st : IsState p s h)

@@ -1,18 +1,11 @@
 -- What stays when flags or registers change.
 use Rattle.std.proofs.Common.{◌≡◌, ℕ, Bool, true, false, cond, Some, None, sym, subst, refl, ◌∙◌}
 use Rattle.std.specs.Prelude.{slice_index}
-use Rattle.space.specs.declared.program.Program.{Program}
-use Rattle.word_kit.specs.declared.plain_words.Plain.{Plain}
-use Rattle.ia_codec.specs.Effect.{Flags as HostFlags, HostEffect as Outcome}
+use Rattle.machines.specs.Prelude.{Program, Plain, Flags as HostFlags, HostEffect as Outcome, rights_of, each_byte, Core, Place, Register, put_at, puts, leaves, puts_both, host_values, chosen_flags, chosen_word}
 use Rattle.ia_alu.specs.declared.given.HostEffect.{HostEffect}
 use Rattle.ia_alu.specs.Values.{outcome_of}
-use Rattle.machines.specs.Memory.{rights_of, each_byte}
-use Rattle.machines.specs.Host.{Core, Place, Register, Memory, put_at, puts, leaves, puts_both, host_values, chosen_flags, chosen_word}
-use Rattle.ia_step.specs.declared.choices.Choice.{Choice}
-use Rattle.ia_step.specs.declared.parts.Flags.{Flags}
-use Rattle.ia_step.specs.declared.parts.Parts.{Parts}
-use Rattle.ia_step.specs.Values.{flags_of, flags_in, choice_of}
-use Rattle.ia_step.specs.Shown.{IsCore, Led, with_reg}
+use Rattle.machines.specs.Host.{Memory}
+use Rattle.ia_step.specs.Prelude.{Choice, Flags, Parts, flags_of, flags_in, choice_of, IsCore, Led, with_reg}
 
 pub flags_put : (p : Program) (s : Parts) (core : Core) (f : Flags) (g : HostFlags) → IsCore p s core → flags_of f ≡ g → IsCore p (record s { flags = f }) (record core { flags = g })
 flags_put p s core f g h e = record { registers = h.registers; same_flags = sym e; memory = h.memory }

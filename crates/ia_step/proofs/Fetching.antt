@@ -2,17 +2,9 @@
 use Rattle.std.proofs.Common.{◌≡◌, ℕ, ◌+◌, ◌-◌, ◌%◌, ◌^◌, Bool, true, false, cond, List, length, take, drop, min, Option, Some, None, refl, sym, ◌∙◌, ap, arith}
 use Rattle.std.specs.Prelude.{option_and_then, slice_get}
 use Rattle.std.proofs.lemmas.List.{take_min}
-use Rattle.space.specs.declared.program.Segment.{Segment}
-use Rattle.space.specs.declared.program.Program.{Program}
-use Rattle.space.specs.declared.call.End.TheVariants.{Outside, Illegal}
-use Rattle.space.specs.Memory.{Memory as Space, bytes_from, code_from, has_address}
+use Rattle.machines.specs.Prelude.{Segment, Program, Outside, Illegal, bytes_from, code_from, has_address, Ends, Op, IsSpelt, rights_of, code_in, code_of, is_code, Host, op_bytes, host_executes, host_acts, host_machine, Fetched, ReadsOps}
+use Rattle.space.specs.Memory.{Memory as Space}
 use Rattle.access.specs.Kept.{Keeps}
-use Rattle.runs.specs.Machine.{Ends}
-use Rattle.ia_codec.specs.declared.op.Op.{Op}
-use Rattle.ia_codec.specs.Spelling.{IsSpelt}
-use Rattle.machines.specs.Memory.{rights_of, code_in, code_of, is_code}
-use Rattle.machines.specs.Host.{Host, op_bytes, host_executes, host_acts, host_machine}
-use Rattle.machines.specs.Readings.{Fetched, ReadsOps}
 
 in_code : (s : Segment) (a : ℕ) (b : List ℕ) (x : Bool) → has_address a s ≡ x → cond x (Some (drop (a - s.at) s.bytes)) None ≡ Some b
     → (is_code (code_in (Some s)) a ≡ true) × (drop (a - s.at) s.bytes ≡ b)

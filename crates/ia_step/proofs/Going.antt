@@ -1,21 +1,7 @@
 -- How the host goes on behind an op.
 use Rattle.std.proofs.Common.{◌≡◌, ℕ, true, false, Option, Some, None, refl, ap, drop, ◌⊎◌, inl, inr}
-use Rattle.space.specs.declared.call.End.TheVariants.{Outside}
-use Rattle.space.specs.declared.call.Event.{Event}
-use Rattle.space.specs.declared.call.Event.TheVariants.{Went, Ended}
-use Rattle.space.specs.declared.program.Program.{Program}
-use Rattle.ia_codec.specs.declared.op.Condition.{Condition}
-use Rattle.ia_codec.specs.declared.op.Operand.{Operand}
-use Rattle.ia_codec.specs.declared.op.UnaryOp.{UnaryOp}
-use Rattle.ia_codec.specs.declared.op.UnaryOp.TheVariants.{Not, Neg, Mul, Imul1, Div, Idiv}
-use Rattle.ia_codec.specs.declared.op.Op.{Op}
-use Rattle.ia_codec.specs.declared.op.Op.TheVariants.{Unary, Jcc, Jmp, JmpTo, Int80, Int3, Ud2}
-use Rattle.machines.specs.Memory.{Rights, rights_of}
-use Rattle.machines.specs.Host.{Core, Host, Choice, place_of, reads, sets, unary_does, goes_to, plain, unary_acts, host_acts}
-use Rattle.ia_step.specs.declared.parts.Parts.{Parts}
-use Rattle.ia_step.specs.declared.state.State.{State}
-use Rattle.ia_step.specs.Shown.{Led}
-use Rattle.ia_step.specs.Steps.{Leads}
+use Rattle.machines.specs.Prelude.{Outside, Event, Went, Ended, Program, Condition, Operand, UnaryOp, Not, Neg, Mul, Imul1, Div, Idiv, Op, Unary, Jcc, Jmp, JmpTo, Int80, Int3, Ud2, Rights, rights_of, Core, Host, Choice, place_of, reads, sets, unary_does, goes_to, plain, unary_acts, host_acts}
+use Rattle.ia_step.specs.Prelude.{Parts, State, Led, Leads}
 
 -- an op that goes through
 pub went : (p : Program) (s new : State) (h : Host) (parts : Parts) (next : ℕ) (o : Option Core) (e : Event) → Led p true parts o → h.choices ≡ s.choices

@@ -1,14 +1,10 @@
 -- Accesses to memory, in the words of the host's places.
 use Rattle.std.proofs.Common.{◌≡◌, ℕ, Bool, true, false, cond, Option, Some, None, refl, sym, ◌∙◌, ap, subst}
-use Rattle.space.specs.declared.program.Program.{Program}
+use Rattle.machines.specs.Prelude.{Program, Operand, Reg, Abs, Base, Pair, rights_of, each_byte, load, store, Core, Place, place_of, address_in, reads, puts}
 use Rattle.space.specs.Memory.{Memory as Space}
 use Rattle.access.specs.Kept.{Keeps, is_allowed}
-use Rattle.ia_codec.specs.declared.op.Operand.{Operand}
-use Rattle.ia_codec.specs.declared.op.Operand.TheVariants.{Reg, Abs, Base, Pair}
-use Rattle.machines.specs.Memory.{rights_of, each_byte, load, store}
-use Rattle.machines.specs.Host.{Core, Place, Memory, place_of, address_in, reads, puts}
-use Rattle.ia_step.specs.declared.parts.Parts.{Parts}
-use Rattle.ia_step.specs.Shown.{IsCore, Led}
+use Rattle.machines.specs.Host.{Memory}
+use Rattle.ia_step.specs.Prelude.{Parts, IsCore, Led}
 
 -- an operand that is no register is in memory
 pub memory_at : (size : ℕ) (o : Operand) (regs : ℕ → ℕ) → ((r : ℕ) → o ≡ Reg r → ⊥) → place_of size o regs ≡ Memory size (address_in (place_of size o regs))

@@ -1,16 +1,9 @@
 -- How the host goes on behind a call.
 use Rattle.std.proofs.Common.{◌≡◌, ℕ, ◌-◌, ◌^◌, List, Ok, Err, refl, sym, ◌∙◌, ap, subst}
-use Rattle.space.specs.declared.call.Call.{Call}
-use Rattle.space.specs.declared.program.Program.{Program}
+use Rattle.machines.specs.Prelude.{Call, Program, ListedCall, AnswerValue, Given, Gives, Fails, given, rights_of, update, put_block, Core, Host, after_host_call}
 use Rattle.space.specs.Memory.{Memory}
-use Rattle.space.specs.Reports.{ListedCall, AnswerValue, Given, Gives, Fails, given}
-use Rattle.machines.specs.Memory.{rights_of, update, put_block}
-use Rattle.machines.specs.Host.{Core, Host, after_host_call}
-use Rattle.ia_step.specs.declared.parts.Parts.{Parts}
-use Rattle.ia_step.specs.declared.state.State.{State}
-use Rattle.ia_step.specs.Shown.{IsCore, IsState, with_reg}
+use Rattle.ia_step.specs.Prelude.{Parts, State, IsCore, IsState, with_reg, IsAsking}
 use Rattle.machine_calls.specs.Calls.{listed_call, IsGiven}
-use Rattle.ia_step.specs.Calls.{IsAsking}
 use Rattle.ia_step.proofs.Memories.{memory_put}
 
 pub resumed : (p : Program) (s : State) (c : Call) (call : ListedCall) (next : AnswerValue → Host) (k : IsAsking p s c call next) (a : AnswerValue) (g : Given) (parts : Parts)

@@ -1,19 +1,11 @@
 -- How a machine stands behind a step.
 use Rattle.std.proofs.Common.{◌≡◌, ℕ, List, Option, refl, ap}
-use Rattle.space.specs.declared.call.Event.{Event}
-use Rattle.space.specs.declared.call.Event.TheVariants.{Went, Asked, Ended}
-use Rattle.space.specs.declared.program.Program.{Program}
-use Rattle.runs.specs.Machine.{Outcome}
-use Rattle.machines.specs.Host.{Host, host_machine}
-use Rattle.machines.specs.Readings.{Fetched}
+use Rattle.machines.specs.Prelude.{Event, Went, Asked, Ended, Program, Outcome, Host, host_machine, Fetched}
 use Rattle.machine_calls.specs.declared.phase.Phase.{Phase}
 use Rattle.machine_calls.specs.declared.phase.Phase.TheVariants.{Going, Over}
 use Rattle.machine_calls.specs.Phases.{IsReady, Tells, phase_of, stepped}
 use Rattle.machine_calls.proofs.Phases.{step_shown}
-use Rattle.ia_step.specs.declared.state.State.{State}
-use Rattle.ia_step.specs.Shown.{IsState}
-use Rattle.ia_step.specs.Calls.{IsAsking}
-use Rattle.ia_step.specs.Steps.{IsDone, Leads, Shows, IsTold}
+use Rattle.ia_step.specs.Prelude.{State, IsState, IsAsking, IsDone, Leads, Shows, IsTold}
 
 -- what the machine shows behind a step
 pub steps : (p : Program) (ops : List ℕ → Option Fetched) (s new : State) (phase : Phase) (event : Event) (o : Outcome Host) → phase ≡ Going

@@ -3,7 +3,7 @@ use Rattle.std.proofs.Common.{◌≡◌, ℕ, ◌+◌, zero, suc, cond, ltb, Lis
 use Rattle.std.proofs.lemmas.Bool.Decides.{nat_tests}
 use Rattle.std.specs.Prelude.{slice_index}
 use Rattle.std.proofs.lemmas.List.{get_or-drop, drop-drop}
-use Rattle.machines.specs.Host.{Choice, choice_at, chosen_word, no_choice}
+use Rattle.machines.specs.Prelude.{Choice, choice_at, chosen_word, no_choice}
 
 -- the choices behind n of them
 pub behind : (n : ℕ) (l m k : List Choice) → m ≡ drop n l → k ≡ drop 1 m → k ≡ drop (n + 1) l

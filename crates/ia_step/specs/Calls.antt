@@ -1,14 +1,6 @@
 -- A call of the host that waits for its answer.
 use Rattle.std.specs.Prelude.{◌≡◌, ℕ, cond, drop}
-use Rattle.space.specs.declared.call.Call.{Call}
-use Rattle.space.specs.declared.call.CallKind.{CallKind}
-use Rattle.space.specs.declared.call.End.TheVariants.{Outside}
-use Rattle.space.specs.declared.program.Program.{Program}
-use Rattle.space.specs.Reports.{ListedCall, AnswerValue, given}
-use Rattle.runs.specs.Machine.{Outcome, Ends}
-use Rattle.ia_codec.specs.Registers.{ebx, ecx, edx}
-use Rattle.machines.specs.Memory.{rights_of}
-use Rattle.machines.specs.Host.{Host, after_host_call, host_asks}
+use Rattle.machines.specs.Prelude.{Call, CallKind, Outside, Program, ListedCall, AnswerValue, given, Outcome, Ends, ebx, ecx, edx, rights_of, Host, after_host_call, host_asks}
 use Rattle.machine_calls.specs.Calls.{listed_as, listed_call, is_buffer}
 use Rattle.ia_step.specs.declared.state.State.{State}
 use Rattle.ia_step.specs.Shown.{IsCore}

@@ -2,3 +2,4 @@ pub mod Values
 pub mod Shown
 pub mod Calls
 pub mod Steps
+pub mod Prelude

@@ -1,12 +1,7 @@
 -- What the machine shows of a state of the host, and how its parts change with it. This project's own.
 use Rattle.std.specs.Prelude.{◌≡◌, ◌<◌, ℕ, Bool, true, false, slice_index, Option, Some, None}
-use Rattle.space.specs.declared.program.Program.{Program}
+use Rattle.machines.specs.Prelude.{Program, Op, HostValues, host_row, update, Core, Host}
 use Rattle.access.specs.Kept.{Keeps}
-use Rattle.ia_codec.specs.declared.op.Op.{Op}
-use Rattle.ia_codec.specs.Effect.{HostValues}
-use Rattle.ia_codec.specs.Rows.{host_row}
-use Rattle.machines.specs.Memory.{update}
-use Rattle.machines.specs.Host.{Core, Host}
 use Rattle.ia_step.specs.declared.parts.Parts.{Parts}
 use Rattle.ia_step.specs.declared.state.State.{State}
 use Rattle.ia_step.specs.Values.{flags_of}

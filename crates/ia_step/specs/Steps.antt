@@ -1,15 +1,7 @@
 -- What a machine shows of the run of a program, and what an event tells of a step.
 use Rattle.std.specs.Prelude.{◌≡◌, ℕ, List, Option, Result, Ok, Err}
-use Rattle.space.specs.declared.call.Event.{Event}
-use Rattle.space.specs.declared.call.Event.TheVariants.{Went, Asked, Ended}
-use Rattle.space.specs.declared.call.End.{End}
-use Rattle.space.specs.declared.program.Program.{Program}
+use Rattle.machines.specs.Prelude.{Event, Went, Asked, Ended, End, Program, Outcome, Ends, Op, rights_of, Host, host_machine, host_acts, Fetched}
 use Rattle.space.specs.Memory.{Memory}
-use Rattle.runs.specs.Machine.{Outcome, Ends}
-use Rattle.ia_codec.specs.declared.op.Op.{Op}
-use Rattle.machines.specs.Memory.{rights_of}
-use Rattle.machines.specs.Host.{Host, host_machine, host_acts}
-use Rattle.machines.specs.Readings.{Fetched}
 use Rattle.machine_calls.specs.declared.phase.Phase.{Phase}
 use Rattle.machine_calls.specs.declared.phase.Phase.TheVariants.{Going, Waiting, Over}
 use Rattle.machine_calls.specs.Calls.{HasBuffer}

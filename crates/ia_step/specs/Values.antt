@@ -1,8 +1,7 @@
 -- Choices and flags as the definitions of the host have them. This project's own.
 use Rattle.std.specs.Prelude.{Bool}
-use Rattle.ia_codec.specs.Effect.{Flags as HostFlags}
+use Rattle.machines.specs.Prelude.{Flags as HostFlags, Choice as HostChoice}
 use Rattle.ia_alu.specs.declared.given.HostEffect.{HostEffect}
-use Rattle.machines.specs.Host.{Choice as HostChoice}
 use Rattle.ia_step.specs.declared.choices.Choice.{Choice}
 use Rattle.ia_step.specs.declared.parts.Flags.{Flags}
 

@@ -1,10 +1,7 @@
 //! System calls and their answers.
 
 ghost use Rattle.std.specs.Prelude.{◌≡◌, ◌≤◌, ◌-◌, ◌^◌};
-ghost use Rattle.space.specs.declared.program.Program.{Program};
-ghost use Rattle.space.specs.Reports.{ListedCall, AnswerValue, answer_value};
-ghost use Rattle.machines.specs.Memory.{rights_of};
-ghost use Rattle.machines.specs.Host.{Host, host_system_call};
+ghost use Rattle.machines.specs.Prelude.{Program, ListedCall, AnswerValue, answer_value, rights_of, Host, host_system_call};
 ghost use Rattle.machine_calls.specs.Calls.{HasBuffer};
 ghost use Rattle.ia_step.specs.Shown.{IsState};
 ghost use Rattle.ia_step.specs.Calls.{IsAsking, asks_for};

@@ -1,7 +1,7 @@
 //! What the processor chooses where the manual leaves a result or a flag undefined.
 
 ghost use Rattle.std.specs.Prelude.{◌≡◌, drop, map};
-ghost use Rattle.machines.specs.Host.{choice_at, chosen_flags, chosen_word};
+ghost use Rattle.machines.specs.Prelude.{choice_at, chosen_flags, chosen_word};
 ghost use Rattle.ia_step.specs.Values.{choice_of, flags_of};
 
 use crate::parts::Flags;

@@ -1,11 +1,8 @@
 //! What an op makes of the values that it reads.
 
 ghost use Rattle.std.specs.Prelude.{◌≡◌, ℕ};
-ghost use Rattle.space.specs.declared.program.Program.{Program};
-ghost use Rattle.ia_codec.specs.Rows.{host_row};
-ghost use Rattle.ia_codec.specs.Spelling.{IsInProfile};
+ghost use Rattle.machines.specs.Prelude.{Program, host_row, IsInProfile, Core, host_values};
 ghost use Rattle.ia_alu.specs.Values.{outcome_of};
-ghost use Rattle.machines.specs.Host.{Core, host_values};
 ghost use Rattle.ia_step.specs.Shown.{IsCore};
 ghost use Rattle.ia_step.specs.Values.{choice_of, flags_of, flags_in};
 

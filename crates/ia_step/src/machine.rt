@@ -1,16 +1,9 @@
 //! The machine.
 
 ghost use Rattle.std.specs.Prelude.{◌≡◌, ℕ, List, Option, map, IfOk, slice_index};
-ghost use Rattle.space.specs.declared.call.End.{End as Ending};
-ghost use Rattle.space.specs.declared.program.Program.{Program as OfProgram};
+ghost use Rattle.machines.specs.Prelude.{End as Ending, Program as OfProgram, ListedCall, AnswerValue, answer_value, Outcome, Goes, Asks, IsReg, first_bytes, Fetched, ReadsOps, Host, host_machine, host_start};
 ghost use Rattle.space.specs.Memory.{AreApart};
-ghost use Rattle.space.specs.Reports.{ListedCall, AnswerValue, answer_value};
-ghost use Rattle.runs.specs.Machine.{Outcome, Goes, Asks};
-ghost use Rattle.ia_codec.specs.Spelling.{IsReg};
 ghost use Rattle.access.specs.Kept.{HasClosedCode, Keeps};
-ghost use Rattle.machines.specs.Memory.{first_bytes};
-ghost use Rattle.machines.specs.Readings.{Fetched, ReadsOps};
-ghost use Rattle.machines.specs.Host.{Host, host_machine, host_start};
 ghost use Rattle.ia_step.specs.Values.{choice_of};
 ghost use Rattle.machine_calls.specs.Phases.{IsWaiting, Tells, stepped};
 ghost use Rattle.ia_step.specs.Steps.{Shows, IsTold, memory_of};

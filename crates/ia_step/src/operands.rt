@@ -1,10 +1,8 @@
 //! Operands: registers, and places in memory.
 
 ghost use Rattle.std.specs.Prelude.{◌≡◌, ◌≤◌, ◌<◌, ◌+◌, ◌*◌, ◌/◌, ◌%◌, ◌^◌, ℕ, is_some, IfNone, slice_index};
-ghost use Rattle.space.specs.declared.program.Program.{Program};
-ghost use Rattle.ia_codec.specs.Spelling.{IsOperand};
-ghost use Rattle.machines.specs.Host.{Core, Memory, place_of, address_in, byte_for, reads, puts};
-ghost use Rattle.machines.specs.Memory.{rights_of};
+ghost use Rattle.machines.specs.Prelude.{Program, IsOperand, Core, place_of, address_in, byte_for, reads, puts, rights_of};
+ghost use Rattle.machines.specs.Host.{Memory};
 ghost use Rattle.ia_step.specs.Shown.{IsCore, Led};
 
 use crate::parts::Parts;

@@ -1,10 +1,7 @@
 //! What an op does that is no jump and no call.
 
 ghost use Rattle.std.specs.Prelude.{◌≡◌, ◌≤◌, ℕ, ◌<◌, true, is_some, IfNone};
-ghost use Rattle.space.specs.declared.program.Program.{Program};
-ghost use Rattle.ia_codec.specs.Spelling.{IsInProfile, IsOperand, IsMemory, IsByte};
-ghost use Rattle.machines.specs.Host.{Core, has_result as op_has_result, extend_size as read_size, unary_does, does};
-ghost use Rattle.machines.specs.Memory.{rights_of};
+ghost use Rattle.machines.specs.Prelude.{Program, IsInProfile, IsOperand, IsMemory, IsByte, Core, has_result as op_has_result, extend_size as read_size, unary_does, does, rights_of};
 ghost use Rattle.ia_step.specs.Shown.{IsCore, Led};
 ghost use Rattle.ia_step.specs.Values.{choice_of};
 

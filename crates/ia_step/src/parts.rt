@@ -1,9 +1,7 @@
 //! Registers, flags and memory.
 
 ghost use Rattle.std.specs.Prelude.{◌≡◌, ◌<◌, ℕ, slice_index};
-ghost use Rattle.space.specs.declared.program.Program.{Program};
-ghost use Rattle.machines.specs.Host.{Core};
-ghost use Rattle.machines.specs.Memory.{update};
+ghost use Rattle.machines.specs.Prelude.{Program, Core, update};
 ghost use Rattle.ia_step.specs.Shown.{IsCore, with_reg};
 
 use space::Space;

@@ -1,12 +1,8 @@
 //! The shapes of ops: which operands one reads, and where its results go.
 
 ghost use Rattle.std.specs.Prelude.{◌≡◌, ◌≤◌, ◌<◌, ◌^◌, ℕ, true, Some, is_some, IfNone};
-ghost use Rattle.space.specs.declared.program.Program.{Program};
-ghost use Rattle.ia_codec.specs.Effect.{HostEffect as Outcome};
-ghost use Rattle.ia_codec.specs.Spelling.{IsInProfile, IsOperand, IsReg};
+ghost use Rattle.machines.specs.Prelude.{Program, HostEffect as Outcome, IsInProfile, IsOperand, IsReg, Core, Register, place_of, reads, leaves, changes, sets, sets_byte, multiplies, puts_both, rights_of};
 ghost use Rattle.ia_alu.specs.Values.{outcome_of};
-ghost use Rattle.machines.specs.Host.{Core, Register, place_of, reads, leaves, changes, sets, sets_byte, multiplies, puts_both};
-ghost use Rattle.machines.specs.Memory.{rights_of};
 ghost use Rattle.ia_step.specs.Shown.{IsCore, IsOfByte, Led};
 ghost use Rattle.ia_step.specs.Values.{choice_of};
 

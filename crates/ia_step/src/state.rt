@@ -2,11 +2,7 @@
 
 ghost use Rattle.std.specs.Prelude.{◌≡◌, ℕ, List, Option, drop, IfOk};
 ghost use Rattle.std.specs.Result.{IfErr};
-ghost use Rattle.space.specs.declared.program.Program.{Program};
-ghost use Rattle.ia_codec.specs.Spelling.{IsInProfile, IsOperand};
-ghost use Rattle.machines.specs.Memory.{rights_of};
-ghost use Rattle.machines.specs.Readings.{Fetched, ReadsOps};
-ghost use Rattle.machines.specs.Host.{Host, place_of, reads, plain, jumps, jumps_to, divides, unary_acts, host_acts, host_machine, faults_on, choice_at};
+ghost use Rattle.machines.specs.Prelude.{Program, IsInProfile, IsOperand, rights_of, Fetched, ReadsOps, Host, place_of, reads, plain, jumps, jumps_to, divides, unary_acts, host_acts, host_machine, faults_on, choice_at};
 ghost use Rattle.ia_step.specs.Shown.{IsState};
 ghost use Rattle.machine_calls.specs.Phases.{IsEnd};
 ghost use Rattle.ia_step.specs.Steps.{Fetches, IsDone, Leads};

@@ -1,24 +1,17 @@
 -- The block of decoded words: one base tile a word.
 use Rattle.std.proofs.Common.{◌≡◌, ℕ, zero, suc, ◌≤◌, Bool, true, false, cond, List, [], ◌∷◌, ◌++◌, length, Option, Some, None, if◌then◌else◌, refl, sym, ap, subst, arith}
 use Rattle.std.proofs.lemmas.Bool.{false≢true}
-use Rattle.ppc_isa.specs.declared.instr.Instr.{Instr}
+use Rattle.machines.specs.Prelude.{Instr, behind, guest_executes}
 use Rattle.row_laws.specs.FlowWords.{is_flow}
-use Rattle.base_flow.specs.Tile.{tile as flow_tile, illegal_items}
+use Rattle.base_flow.specs.Prelude.{tile as flow_tile, illegal_items}
 use Rattle.base_flow.proofs.Tiles.{illegal_tile_does_word}
-use Rattle.symbolic_tiles.specs.TileItems.{flows_of}
+use Rattle.symbolic_tiles.specs.Prelude.{flows_of, window_of, WritesHeld, Fits, FlowDoesWord, flow, AreMarked}
 use Rattle.symbolic_tiles.specs.declared.flow_op.FlowOp.{FlowOp}
-use Rattle.machines.specs.Guest.{behind, guest_executes}
-use Rattle.symbolic_tiles.specs.Row.{window_of, WritesHeld}
-use Rattle.symbolic_tiles.specs.Flow.{Fits, FlowDoesWord, flow}
-use Rattle.symbolic_tiles.specs.Marks.{AreMarked}
-use Rattle.simulation.specs.Context.{SimulationContext, IsWordAt}
-use Rattle.simulation.specs.Plan.{PlanStep, Tile, FlowTile, word_count, room, HasFewMoves}
-use Rattle.code_layout.specs.Decoded.{IsLegalDecoded}
-use Rattle.code_layout.specs.Places.{no_registers}
-use Rattle.code_layout.specs.Code.{word_ops, block_items, IsLaid}
+use Rattle.simulation.specs.Prelude.{SimulationContext, IsWordAt, PlanStep, Tile, FlowTile, word_count, room, HasFewMoves}
+use Rattle.code_layout.specs.Prelude.{IsLegalDecoded, no_registers, word_ops, block_items, IsLaid}
 use Rattle.code_layout.proofs.BuiltWords.{is_map}
 use Rattle.std.specs.List.{All}
-use Rattle.laid_code.specs.Plans.{plain, plan_items, last_map, AreRight}
+use Rattle.laid_code.specs.Prelude.{plain, plan_items, last_map, AreRight}
 use Rattle.laid_code.proofs.Rows.{straight_tile, straight_leads, Kind, straight as straight_kind, flowing, kind_of}
 
 -- the step of an illegal word, and of a flow word

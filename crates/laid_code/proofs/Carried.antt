@@ -3,30 +3,13 @@ use Rattle.std.proofs.Common.{◌≡◌, ℕ, zero, suc, ◌+◌, ◌*◌, ◌-�
 use Rattle.std.proofs.lemmas.Bool.{false≢true, cases_lt, eqb-true}
 use Rattle.std.proofs.lemmas.Bool.Decides.{nat_tests}
 use Rattle.std.proofs.lemmas.List.{append-nil, get_or_default, get_or_past, length-take, length-drop}
-use Rattle.space.specs.declared.call.End.TheVariants.{Outside}
-use Rattle.space.specs.declared.program.Program.{Program}
-use Rattle.ppc_isa.specs.declared.instr.Instr.{Instr}
-use Rattle.ia_codec.specs.Spelling.{spelling}
-use Rattle.ia_codec.specs.declared.op.Op.TheVariants.{Jmp}
-use Rattle.block_find.specs.Branches.{address_of}
-use Rattle.block_find.specs.Laws.{all_blocks, block_at, IsBlockAt, EachIsBlock}
+use Rattle.machines.specs.Prelude.{Outside, Program, Instr, spelling, Jmp, Ends, rights_of, code_of, Fetched, ReadsWords, ReadsOps, behind, is_code_word, word_at, guest_executes}
+use Rattle.block_find.specs.Prelude.{address_of, all_blocks, block_at, IsBlockAt, EachIsBlock}
 use Rattle.block_find.specs.declared.block.Block.{Block}
-use Rattle.runs.specs.Machine.{Ends}
-use Rattle.machines.specs.Memory.{rights_of, code_of}
-use Rattle.machines.specs.Readings.{Fetched, ReadsWords, ReadsOps}
-use Rattle.machines.specs.Guest.{behind, is_code_word, word_at, guest_executes}
 use Rattle.symbolic_tiles.proofs.PlaceLaws.{programs_write_held}
-use Rattle.simulation.specs.Context.{SimulationContext, IsWordAt, IsOffCode, JumpsTo}
-use Rattle.simulation.specs.Plan.{PlanStep, BlockAt, Begins}
-use Rattle.code_layout.specs.Decoded.{IsDecodedAs, decoded_at, IsLegalDecoded}
-use Rattle.code_layout.specs.Places.{no_registers, no_moves, place_of, entry_of, Places, places_in}
-use Rattle.code_layout.specs.Code.{block_items, items_bytes}
-use Rattle.code_layout.specs.Layout.{words_of, items_of, blocks_bytes, BeginsAt}
-use Rattle.laid_code.specs.Bytes.{HasBytes, RunsCode}
-use Rattle.laid_code.specs.Instance.{code_start, Interface, without_registers, context_of, laid_context, HasWords, HasCodeFor}
-use Rattle.laid_code.specs.Items.{ArePlaced}
-use Rattle.laid_code.specs.Laws.{IsBlockOrOff, BlocksStand, HoldStands, EntriesAreAddresses}
-use Rattle.laid_code.specs.Plans.{plan_items}
+use Rattle.simulation.specs.Prelude.{SimulationContext, IsWordAt, IsOffCode, JumpsTo, PlanStep, BlockAt, Begins}
+use Rattle.code_layout.specs.Prelude.{IsDecodedAs, decoded_at, IsLegalDecoded, no_registers, no_moves, place_of, entry_of, Places, places_in, block_items, items_bytes, words_of, items_of, blocks_bytes, BeginsAt}
+use Rattle.laid_code.specs.Prelude.{HasBytes, RunsCode, code_start, Interface, without_registers, context_of, laid_context, HasWords, HasCodeFor, ArePlaced, IsBlockOrOff, BlocksStand, HoldStands, EntriesAreAddresses, plan_items}
 use Rattle.laid_code.proofs.Decoding.{first_bytes_at, next_bytes_at, bytes_end_low, jump_leads}
 use Rattle.laid_code.proofs.Laid.{HasBlock, block_stands}
 use Rattle.laid_code.proofs.Plans.{plans_stand}

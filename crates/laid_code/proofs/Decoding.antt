@@ -3,18 +3,11 @@ use Rattle.std.proofs.Common.{◌≡◌, ℕ, ◌+◌, ◌-◌, ◌%◌, ◌^◌
 use Rattle.std.proofs.Math.Seq.{take-append_seam, drop-append_seam}
 use Rattle.std.proofs.lemmas.List.{take-take, length-take}
 use Rattle.std.proofs.lemmas.Bool.Decides.{nat_tests}
-use Rattle.space.specs.declared.call.End.TheVariants.{Outside}
-use Rattle.ia_codec.specs.Spelling.{spelling, IsInProfile, IsSpelt}
-use Rattle.ia_codec.specs.declared.op.Op.{Op}
-use Rattle.ia_codec.specs.declared.op.Op.TheVariants.{Jmp}
+use Rattle.machines.specs.Prelude.{Outside, spelling, IsInProfile, IsSpelt, Op, Jmp, Goes, Ends, Code, is_code, Fetched, host_acts, host_executes, op_bytes}
 use Rattle.ia_codec.proofs.Lengths.{length-spelling}
-use Rattle.runs.specs.Machine.{Goes, Ends}
-use Rattle.machines.specs.Memory.{Code, is_code}
-use Rattle.machines.specs.Readings.{Fetched}
-use Rattle.machines.specs.Host.{host_acts, host_executes, op_bytes}
-use Rattle.symbolic_tiles.specs.Standing.{OpAt}
-use Rattle.simulation.specs.Context.{SimulationContext, JumpsTo}
-use Rattle.laid_code.specs.Bytes.{HasBytes, RunsCode}
+use Rattle.symbolic_tiles.specs.Prelude.{OpAt}
+use Rattle.simulation.specs.Prelude.{SimulationContext, JumpsTo}
+use Rattle.laid_code.specs.Prelude.{HasBytes, RunsCode}
 
 pub first_bytes_at : (code : Code) (here : ℕ) (x y : List ℕ) → HasBytes code here (x ++ y) → HasBytes code here x
 first_bytes_at code here x y h = record {

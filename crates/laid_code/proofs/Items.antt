@@ -3,33 +3,13 @@ use Rattle.std.proofs.Common.{◌≡◌, ℕ, zero, suc, ◌+◌, ◌-◌, ◌*�
 use Rattle.std.proofs.lemmas.Bool.{eqb-true, false≢true}
 use Rattle.std.proofs.lemmas.Bool.Decides.{nat_tests}
 use Rattle.std.proofs.lemmas.List.Elements.{All-head, All-tail}
-use Rattle.ia_codec.specs.Spelling.{spelling, condition_number, IsReg, IsInProfile}
-use Rattle.ia_codec.specs.Effect.{Flags}
-use Rattle.ia_codec.specs.Rows.{condition_holds}
-use Rattle.ia_codec.specs.declared.op.Condition.{Condition}
-use Rattle.ia_codec.specs.declared.op.Condition.TheVariants.{Below, NotBelow, Equal, NotEqual, NotAbove, Above, Sign, NotSign, Less, NotLess, NotGreater, Greater}
-use Rattle.ia_codec.specs.declared.op.Op.{Op}
-use Rattle.ia_codec.specs.declared.op.Op.TheVariants.{Jcc, Jmp, JmpTo}
-use Rattle.ia_codec.specs.declared.op.Operand.TheVariants.{Base}
-use Rattle.ppc_isa.specs.declared.map.Map.{Map}
+use Rattle.machines.specs.Prelude.{spelling, condition_number, IsReg, IsInProfile, Flags, condition_holds, Condition, Below, NotBelow, Equal, NotEqual, NotAbove, Above, Sign, NotSign, Less, NotLess, NotGreater, Greater, Op, Jcc, Jmp, JmpTo, Base, Map, Goes, Code, Fetched, Host}
 use Rattle.symbolic_tiles.specs.declared.flow_op.FlowOp.{FlowOp}
 use Rattle.symbolic_tiles.specs.declared.flow_op.FlowOp.TheVariants.{Plain, Jump, Mark, Edge, Leap}
-use Rattle.runs.specs.Machine.{Goes}
-use Rattle.machines.specs.Memory.{Code}
-use Rattle.machines.specs.Readings.{Fetched}
-use Rattle.machines.specs.Host.{Host}
-use Rattle.symbolic_tiles.specs.Flow.{is_taken}
-use Rattle.symbolic_tiles.specs.Standing.{OpAt, OpsAt, EdgeCode, ItemsAt}
-use Rattle.simulation.specs.Context.{SimulationContext}
-use Rattle.simulation.specs.Plan.{SwitchAt, EdgeAt, LeapAt}
-use Rattle.code_layout.specs.Leap.{leap_ops}
-use Rattle.code_layout.specs.Places.{Moves}
-use Rattle.code_layout.specs.Code.{IsLaid, op_at, jump, spelled, placed, moves_ops, edge_bytes, leap_bytes, item_length, before_mark, item_bytes, items_bytes}
-use Rattle.symbolic_tiles.specs.Marks.{IsJumpCode, has_mark, AreMarked}
-use Rattle.symbolic_tiles.specs.TileItems.{code_of}
-use Rattle.laid_code.specs.Bytes.{HasBytes, RunsCode}
-use Rattle.laid_code.specs.Items.{ArePlaceable, labels_of, edges_of, leaps_of, places_of, IsSwitch, AreSwitches}
-use Rattle.laid_code.specs.Laws.{ItemsStand}
+use Rattle.symbolic_tiles.specs.Prelude.{is_taken, OpAt, OpsAt, EdgeCode, ItemsAt, IsJumpCode, has_mark, AreMarked, code_of}
+use Rattle.simulation.specs.Prelude.{SimulationContext, SwitchAt, EdgeAt, LeapAt}
+use Rattle.code_layout.specs.Prelude.{leap_ops, Moves, IsLaid, op_at, jump, spelled, placed, moves_ops, edge_bytes, leap_bytes, item_length, before_mark, item_bytes, items_bytes}
+use Rattle.laid_code.specs.Prelude.{HasBytes, RunsCode, ArePlaceable, labels_of, edges_of, leaps_of, places_of, IsSwitch, AreSwitches, ItemsStand}
 use Rattle.laid_code.proofs.Decoding.{first_bytes_at, next_bytes_at, ends_low, spelling_stands, jump_leads}
 use Rattle.laid_code.proofs.Lengths.{placed_length, all_placed_length, one_length, bytes_length, mark_within}
 

@@ -1,13 +1,10 @@
 -- Where a block's items stand in the code.
 use Rattle.std.proofs.Common.{◌≡◌, ℕ, zero, suc, ◌+◌, ◌<◌, List, [], ◌∷◌, get_or, length, take, Option, subst, arith}
 use Rattle.std.proofs.lemmas.List.Sums.{sum_by-cons}
-use Rattle.ppc_isa.specs.declared.instr.Instr.{Instr}
+use Rattle.machines.specs.Prelude.{Instr, Code}
 use Rattle.block_find.specs.declared.block.Block.{Block}
-use Rattle.machines.specs.Memory.{Code}
-use Rattle.code_layout.specs.Places.{Places}
-use Rattle.code_layout.specs.Code.{items_bytes}
-use Rattle.code_layout.specs.Layout.{items_of, block_length, blocks_bytes, stands_at}
-use Rattle.laid_code.specs.Bytes.{HasBytes}
+use Rattle.code_layout.specs.Prelude.{Places, items_bytes, items_of, block_length, blocks_bytes, stands_at}
+use Rattle.laid_code.specs.Prelude.{HasBytes}
 use Rattle.laid_code.proofs.Decoding.{first_bytes_at, next_bytes_at}
 use Rattle.laid_code.proofs.Lengths.{bytes_length}
 

@@ -1,15 +1,9 @@
 -- Items have as many bytes as their lengths say, wherever they stand.
 use Rattle.std.proofs.Common.{◌≡◌, ℕ, suc, ◌+◌, ◌-◌, ◌%◌, ◌^◌, ◌≤◌, Bool, true, false, cond, List, [], ◌∷◌, ◌++◌, length, Option, Some, None, refl, sym, ap, ◌∙◌, arith, length-append}
-use Rattle.ia_codec.specs.Spelling.{spelling, modrm, dword, alu_number, shift_number, unary_number}
-use Rattle.ia_codec.specs.declared.op.Operand.{Operand}
-use Rattle.ia_codec.specs.declared.op.Operand.TheVariants.{Reg, Abs, Base, Pair}
-use Rattle.ia_codec.specs.declared.op.Condition.{Condition}
-use Rattle.ia_codec.specs.declared.op.Op.{Op}
-use Rattle.ia_codec.specs.declared.op.Op.TheVariants.{AluTo, AluFrom, AluImm, TestReg, TestImm, Unary, Imul, MovTo, MovFrom, MovImm, MovToImm, MovHalfTo, MovByteTo, MovByteFrom, Shift, ShiftByCl, Lea, Extend, Bswap, Set, Cmov, Bsr, Cdq, Jcc, Jmp, JmpTo, Int80, Int3, Ud2}
+use Rattle.machines.specs.Prelude.{spelling, modrm, dword, alu_number, shift_number, unary_number, Operand, Reg, Abs, Base, Pair, Condition, Op, AluTo, AluFrom, AluImm, TestReg, TestImm, Unary, Imul, MovTo, MovFrom, MovImm, MovToImm, MovHalfTo, MovByteTo, MovByteFrom, Shift, ShiftByCl, Lea, Extend, Bswap, Set, Cmov, Bsr, Cdq, Jcc, Jmp, JmpTo, Int80, Int3, Ud2}
 use Rattle.symbolic_tiles.specs.declared.flow_op.FlowOp.{FlowOp}
 use Rattle.symbolic_tiles.specs.declared.flow_op.FlowOp.TheVariants.{Plain, Jump, Mark, Edge, Leap}
-use Rattle.code_layout.specs.Places.{Moves, Places}
-use Rattle.code_layout.specs.Code.{operand_at, op_at, jump_on, spelled, placed, moves_ops, item_length, items_length, is_mark, before_mark, item_bytes, items_bytes}
+use Rattle.code_layout.specs.Prelude.{Moves, Places, operand_at, op_at, jump_on, spelled, placed, moves_ops, item_length, items_length, is_mark, before_mark, item_bytes, items_bytes}
 
 one : (area n : ℕ) (m : Operand) → length (modrm n (operand_at area m)) ≡ length (modrm n m)
 one area n (Reg m) = refl

@@ -1,24 +1,12 @@
 -- Where the bytes of a plan's items stand, its block stands.
 use Rattle.std.proofs.Common.{◌≡◌, ℕ, suc, ◌+◌, Bool, cond, List, [], ◌∷◌, ◌++◌, drop, Option, Contains, refl, ap, ◌∙◌, arith, Some, sym}
-use Rattle.ppc_isa.specs.declared.map.Map.{Map}
-use Rattle.ia_codec.specs.Spelling.{condition_number}
-use Rattle.ia_codec.specs.declared.op.Op.{Op}
-use Rattle.ia_codec.specs.declared.op.Condition.{Condition}
+use Rattle.machines.specs.Prelude.{Map, condition_number, Op, Condition, Goes, Code, Fetched}
 use Rattle.symbolic_tiles.specs.declared.flow_op.FlowOp.{FlowOp}
 use Rattle.symbolic_tiles.specs.declared.flow_op.FlowOp.TheVariants.{Plain, Jump, Mark, Edge, Leap}
-use Rattle.runs.specs.Machine.{Goes}
-use Rattle.machines.specs.Memory.{Code}
-use Rattle.machines.specs.Readings.{Fetched}
-use Rattle.symbolic_tiles.specs.Standing.{OpsAt}
-use Rattle.code_layout.specs.Places.{Moves}
-use Rattle.code_layout.specs.Code.{ops_at, item_length, items_length, before_mark, items_bytes}
-use Rattle.simulation.specs.Windows.{behind_all}
-use Rattle.simulation.specs.Context.{SimulationContext, ForksAt}
-use Rattle.simulation.specs.Plan.{PlanStep, Move, Tile, BranchTile, FlowTile, EdgeAt, BlockAt}
-use Rattle.laid_code.specs.Bytes.{HasBytes, RunsCode}
-use Rattle.laid_code.specs.Items.{ArePlaceable, labels_of, edges_of, leaps_of, places_of, AreSwitches, ArePlaced}
-use Rattle.laid_code.specs.Plans.{plain, plan_items, last_map, AreRight}
-use Rattle.laid_code.specs.Laws.{PlansStand}
+use Rattle.symbolic_tiles.specs.Prelude.{OpsAt}
+use Rattle.code_layout.specs.Prelude.{Moves, ops_at, item_length, items_length, before_mark, items_bytes}
+use Rattle.simulation.specs.Prelude.{behind_all, SimulationContext, ForksAt, PlanStep, Move, Tile, BranchTile, FlowTile, EdgeAt, BlockAt}
+use Rattle.laid_code.specs.Prelude.{HasBytes, RunsCode, ArePlaceable, labels_of, edges_of, leaps_of, places_of, AreSwitches, ArePlaced, plain, plan_items, last_map, AreRight, PlansStand}
 use Rattle.laid_code.proofs.Items.{taken, code_is, first_item, other_items, behind_mark_at, op_at_place, jump_at_place, edge_stands, items_stand}
 
 -- where an indirect sequence begins, the items have one

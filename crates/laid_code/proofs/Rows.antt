@@ -1,30 +1,18 @@
 -- What tiles need of the instructions that translation is built for.
 use Rattle.std.proofs.Common.{◌≡◌, ℕ, ◌≤◌, Bool, true, false, List, [], ◌∷◌, All, length, Some, refl, ap, ◌∙◌, subst, arith}
-use Rattle.ppc_isa.specs.Legal.{IsLegal}
-use Rattle.ppc_isa.specs.declared.instr.Instr.{Instr}
-use Rattle.runs.specs.Machine.{Outcome, Goes, Asks, Ends}
-use Rattle.machines.specs.Memory.{Rights}
-use Rattle.machines.specs.Guest.{Guest, behind, guest_acts, effect_of}
+use Rattle.machines.specs.Prelude.{IsLegal, Instr, Outcome, Goes, Asks, Ends, Rights, Guest, behind, guest_acts, effect_of, Op}
 use Rattle.row_laws.specs.FlowWords.{is_flow}
-use Rattle.base_flow.specs.Tile.{tile as flow_tile}
-use Rattle.symbolic_tiles.specs.Row.{window_of, Implements}
-use Rattle.symbolic_tiles.specs.Row.{WritesHeld}
-use Rattle.symbolic_tiles.specs.Flow.{FlowDoesWord}
-use Rattle.symbolic_tiles.specs.Straight.{IsStraight}
+use Rattle.base_flow.specs.Prelude.{tile as flow_tile}
+use Rattle.symbolic_tiles.specs.Prelude.{window_of, Implements, WritesHeld, FlowDoesWord, IsStraight, AreMarked}
 use Rattle.code_layout.proofs.StraightTiles.{tiles_do_rows, tiles_are_placeable, tiles_are_short}
 use Rattle.code_layout.proofs.BuiltWords.{is_map, straight_word, has_tile}
 use Rattle.code_layout.proofs.BlockItems.{flows_laid}
 use Rattle.base_flow.proofs.Tiles.{flow_tiles_are_laid, flow_tiles_do_rows, flow_tiles_are_marked}
 use Rattle.symbolic_tiles.proofs.Straight.{rows_are_straight, accesses_are_inside}
-use Rattle.simulation.specs.Windows.{rows_of, IsQuiet}
-use Rattle.simulation.specs.Context.{SimulationContext, IsWordAt}
-use Rattle.simulation.specs.Plan.{IsTile, LeadsTo}
-use Rattle.code_layout.specs.Places.{no_registers}
-use Rattle.code_layout.specs.Code.{word_ops, ops_at, IsLaid, IsPlaceable}
-use Rattle.laid_code.specs.Items.{ArePlaceable}
-use Rattle.ia_codec.specs.declared.op.Op.{Op}
+use Rattle.simulation.specs.Prelude.{rows_of, IsQuiet, SimulationContext, IsWordAt, IsTile, LeadsTo}
+use Rattle.code_layout.specs.Prelude.{no_registers, word_ops, ops_at, IsLaid, IsPlaceable}
+use Rattle.laid_code.specs.Prelude.{ArePlaceable}
 use Rattle.std.proofs.lemmas.List.Elements.{All-head, All-tail}
-use Rattle.symbolic_tiles.specs.Marks.{AreMarked}
 
 pub each_placeable : (ops : List Op) → All IsPlaceable ops → ArePlaceable ops
 each_placeable [] h = tt

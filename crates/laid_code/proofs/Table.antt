@@ -2,10 +2,9 @@
 use Rattle.std.proofs.Common.{◌≡◌, ℕ, zero, suc, ◌+◌, ◌*◌, ◌/◌, ◌%◌, ◌^◌, ◌<◌, ◌≤◌, ◌⊎◌, inl, inr, List, [], ◌∷◌, length, get_or, slice_index, refl, sym, ap, ◌∙◌, arith}
 use Rattle.std.specs.List.{flat_map}
 use Rattle.byteorder.specs.Endian.{little_bytes}
-use Rattle.machines.specs.Memory.{load}
-use Rattle.block_find.specs.Branches.{address_of}
-use Rattle.laid_code.specs.Instance.{code_start}
-use Rattle.laid_code.specs.Laws.{TablesStand}
+use Rattle.machines.specs.Prelude.{load}
+use Rattle.block_find.specs.Prelude.{address_of}
+use Rattle.laid_code.specs.Prelude.{code_start, TablesStand}
 use Rattle.laid_code.proofs.Carried.{entry_at, entry_or_hold}
 
 -- the bytes of a word in the table

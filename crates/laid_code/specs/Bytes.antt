@@ -1,9 +1,7 @@
 -- Bytes at addresses of the code segment, and a machine that runs them. This project's own.
 use Rattle.std.specs.Prelude.{◌≡◌, ℕ, ◌+◌, ◌^◌, ◌<◌, List, ◌++◌, length, Option}
-use Rattle.machines.specs.Memory.{Code}
-use Rattle.machines.specs.Readings.{Fetched, ReadsOps}
-use Rattle.machines.specs.Host.{Host, host_step}
-use Rattle.simulation.specs.Context.{SimulationContext}
+use Rattle.machines.specs.Prelude.{Code, Fetched, ReadsOps, Host, host_step}
+use Rattle.simulation.specs.Prelude.{SimulationContext}
 
 -- these bytes stand in the code from an address on
 pub record HasBytes (code : Code) (here : ℕ) (bytes : List ℕ) : Type 0 where

@@ -2,17 +2,10 @@
 use Rattle.std.specs.Prelude.{◌≡◌, ℕ, ◌+◌, ◌*◌, ◌^◌, ◌<◌, ◌≤◌, Bool, true, false, List, length, get_or, Option}
 use Rattle.std.specs.List.{flat_map}
 use Rattle.byteorder.specs.Endian.{little_bytes}
-use Rattle.ppc_isa.specs.declared.instr.Instr.{Instr}
-use Rattle.ppc_isa.specs.declared.map.Map.{Map}
-use Rattle.space.specs.declared.program.Program.{Program}
-use Rattle.machines.specs.Memory.{rights_of, code_of, first_bytes}
-use Rattle.machines.specs.Readings.{Fetched}
-use Rattle.machines.specs.Guest.{guest_machine}
-use Rattle.machines.specs.Agreement.{without, narrow_machine}
+use Rattle.machines.specs.Prelude.{Instr, Map, Program, rights_of, code_of, first_bytes, Fetched, guest_machine, without, narrow_machine}
 pub use Rattle.code_words.specs.Words.{HasWords}
-use Rattle.simulation.specs.Context.{SimulationContext}
-use Rattle.code_layout.specs.Places.{no_registers, entry_of}
-use Rattle.code_layout.specs.Layout.{IsCodeFor}
+use Rattle.simulation.specs.Prelude.{SimulationContext}
+use Rattle.code_layout.specs.Prelude.{no_registers, entry_of, IsCodeFor}
 
 -- where the table begins: behind the home page
 abbrev pub table_start : ℕ → ℕ

@@ -2,13 +2,10 @@
 use Rattle.std.specs.Prelude.{◌≡◌, ℕ, ◌+◌, ◌*◌, ◌^◌, ◌<◌, ◌≤◌, List, [], ◌∷◌, length}
 use Rattle.symbolic_tiles.specs.declared.flow_op.FlowOp.{FlowOp}
 use Rattle.symbolic_tiles.specs.declared.flow_op.FlowOp.TheVariants.{Mark, Edge, Leap}
-use Rattle.ppc_isa.specs.declared.map.Map.{Map}
-use Rattle.ia_codec.specs.declared.op.Op.{Op}
-use Rattle.code_layout.specs.Places.{Moves, Places}
-use Rattle.code_layout.specs.Code.{IsPlaceable, item_length, before_mark}
-use Rattle.simulation.specs.Context.{SimulationContext}
-use Rattle.simulation.specs.Plan.{IsMove}
-use Rattle.symbolic_tiles.specs.Standing.{EdgeCode}
+use Rattle.machines.specs.Prelude.{Map, Op}
+use Rattle.code_layout.specs.Prelude.{Moves, Places, IsPlaceable, item_length, before_mark}
+use Rattle.simulation.specs.Prelude.{SimulationContext, IsMove}
+use Rattle.symbolic_tiles.specs.Prelude.{EdgeCode}
 
 -- each op is in the profile over each home page
 abbrev pub ArePlaceable : List Op → Type 0

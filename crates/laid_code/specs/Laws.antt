@@ -1,20 +1,10 @@
 -- What holds of code that stands at addresses.
 use Rattle.std.specs.Prelude.{◌≡◌, ℕ, ◌+◌, ◌-◌, ◌%◌, ◌^◌, ◌<◌, ◌⊎◌, Bool, List, length, slice_index, Option, All, Contains}
-use Rattle.ia_codec.specs.Spelling.{spelling, IsInProfile}
-use Rattle.ia_codec.specs.declared.op.Op.{Op}
-use Rattle.ia_codec.specs.declared.op.Op.TheVariants.{Jmp}
+use Rattle.machines.specs.Prelude.{spelling, IsInProfile, Op, Jmp, Code, Map, Instr, Program, Fetched, ReadsWords, ReadsOps}
 use Rattle.symbolic_tiles.specs.declared.flow_op.FlowOp.{FlowOp}
-use Rattle.machines.specs.Memory.{Code}
-use Rattle.ppc_isa.specs.declared.map.Map.{Map}
-use Rattle.ppc_isa.specs.declared.instr.Instr.{Instr}
-use Rattle.space.specs.declared.program.Program.{Program}
-use Rattle.machines.specs.Readings.{Fetched, ReadsWords, ReadsOps}
-use Rattle.symbolic_tiles.specs.Standing.{OpAt, EdgeCode, ItemsAt}
-use Rattle.simulation.specs.Context.{SimulationContext, HasTable, IsOffCode, JumpsTo}
-use Rattle.simulation.specs.Plan.{PlanStep, EdgeAt, LeapAt, BlockAt, Begins}
-use Rattle.code_layout.specs.Places.{Moves}
-use Rattle.code_layout.specs.Code.{IsLaid, items_bytes}
-use Rattle.symbolic_tiles.specs.Marks.{AreMarked}
+use Rattle.symbolic_tiles.specs.Prelude.{OpAt, EdgeCode, ItemsAt, AreMarked}
+use Rattle.simulation.specs.Prelude.{SimulationContext, HasTable, IsOffCode, JumpsTo, PlanStep, EdgeAt, LeapAt, BlockAt, Begins}
+use Rattle.code_layout.specs.Prelude.{Moves, IsLaid, items_bytes}
 use Rattle.laid_code.specs.Bytes.{HasBytes, RunsCode}
 use Rattle.laid_code.specs.Instance.{code_start, Interface, context_of, laid_context, HasWords, HasCodeFor, HasTableOf}
 use Rattle.laid_code.specs.Items.{labels_of, edges_of, leaps_of, places_of, AreSwitches, ArePlaced}

@@ -3,3 +3,4 @@ pub mod Items
 pub mod Plans
 pub mod Instance
 pub mod Laws
+pub mod Prelude

@@ -1,17 +1,12 @@
 -- The items of a block's plan, and when its steps are right. This project's own.
 use Rattle.std.specs.Prelude.{◌≡◌, ℕ, cond, List, [], ◌∷◌, ◌++◌, map, Some, All, Contains}
-use Rattle.ppc_isa.specs.declared.map.Map.{Map}
-use Rattle.ia_codec.specs.Spelling.{condition_number}
-use Rattle.ia_codec.specs.declared.op.Op.{Op}
+use Rattle.machines.specs.Prelude.{Map, condition_number, Op}
 use Rattle.symbolic_tiles.specs.declared.flow_op.FlowOp.{FlowOp}
 use Rattle.symbolic_tiles.specs.declared.flow_op.FlowOp.TheVariants.{Plain, Jump, Mark, Edge, Leap}
-use Rattle.code_layout.specs.Places.{no_registers}
-use Rattle.code_layout.specs.Code.{IsLaid}
-use Rattle.simulation.specs.Windows.{behind_all}
-use Rattle.simulation.specs.Context.{SimulationContext}
-use Rattle.simulation.specs.Plan.{PlanStep, Move, Tile, BranchTile, FlowTile, IsMove, IsTile, IsUnneeded, LeadsTo, IsFlowTile}
+use Rattle.code_layout.specs.Prelude.{no_registers, IsLaid}
+use Rattle.simulation.specs.Prelude.{behind_all, SimulationContext, PlanStep, Move, Tile, BranchTile, FlowTile, IsMove, IsTile, IsUnneeded, LeadsTo, IsFlowTile}
 use Rattle.laid_code.specs.Items.{ArePlaceable}
-use Rattle.symbolic_tiles.specs.Marks.{AreMarked}
+use Rattle.symbolic_tiles.specs.Prelude.{AreMarked}
 
 abbrev pub plain : List Op → List FlowOp
 plain ops = map (λ op. Plain op) ops

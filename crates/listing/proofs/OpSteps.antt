@@ -1,7 +1,7 @@
 -- The lines of ops, one op at a time.
 use Rattle.std.proofs.Common.{◌≡◌, ℕ, zero, suc, ◌+◌, ◌<◌, ◌≤◌, List, [], ◌∷◌, ◌++◌, length, take, drop, Option, Some, None, refl, ap, arith, length-drop, drop-drop}
 use Rattle.ia_codec.specs.declared.op.Op.{Op}
-use Rattle.ia_codec.specs.Spelling.{spelling, IsSpelt, IsReading}
+use Rattle.ia_codec.specs.Prelude.{spelling, IsSpelt, IsReading}
 use Rattle.ia_codec.proofs.Lengths.{length-spelling}
 use Rattle.std.proofs.lemmas.List.{length-take}
 use Rattle.listing.specs.Lines.{line}

@@ -1,7 +1,7 @@
 -- The listing of IA-32 code: a line for each op. What is written where no op stands is this project's own.
 use Rattle.std.specs.Prelude.{ℕ, zero, suc, ◌+◌, List, [], ◌∷◌, ◌++◌, take, drop, codes, Option, Some, None}
 use Rattle.ia_codec.specs.declared.op.Op.{Op}
-use Rattle.ia_codec.specs.Names.{name_of}
+use Rattle.ia_codec.specs.Prelude.{name_of}
 use Rattle.listing.specs.Lines.{line}
 
 abbrev pub op_name : Option (Op × ℕ) → List ℕ

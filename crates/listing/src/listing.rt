@@ -6,7 +6,7 @@ ghost use Rattle.outside.specs.Streams.{PutsAll};
 ghost use Rattle.ppc_isa.specs.declared.instr.Instr.{Instr};
 ghost use Rattle.ppc_isa.specs.Legal.{IsReading as ReadsWords};
 ghost use Rattle.ia_codec.specs.declared.op.Op.{Op};
-ghost use Rattle.ia_codec.specs.Spelling.{IsReading as ReadsOps};
+ghost use Rattle.ia_codec.specs.Prelude.{IsReading as ReadsOps};
 ghost use Rattle.listing.specs.Listing.{HasCode, text_of};
 
 use crate::ops::list_ops;

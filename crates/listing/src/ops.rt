@@ -4,7 +4,7 @@ ghost use Rattle.std.specs.Prelude.{◌≡◌, ◌+◌, ◌^◌, ◌<◌, ◌≤
 ghost use Rattle.outside.specs.Causes.{HasCause};
 ghost use Rattle.outside.specs.Streams.{PutsAll};
 ghost use Rattle.ia_codec.specs.declared.op.Op.{Op};
-ghost use Rattle.ia_codec.specs.Spelling.{IsReading};
+ghost use Rattle.ia_codec.specs.Prelude.{IsReading};
 ghost use Rattle.listing.specs.Lines.{line};
 ghost use Rattle.listing.specs.Ops.{op_name, op_length, op_lines};
 

@@ -5,9 +5,7 @@ use Rattle.std.specs.Int.{bit_at}
 use Rattle.std.proofs.lemmas.Bool.{cases_lt}
 use Rattle.std.proofs.lemmas.Nat.{and_mask, bit_set_by_shift}
 use Rattle.std.proofs.lemmas.Nat.Bits.{bit_at_or, bit_at_xor, bit_at-lt, bit_at_ones, bit_at_ones_above}
-use Rattle.liveness.specs.Live.{IsLocation}
-use Rattle.liveness.specs.Flows.{Has}
-use Rattle.liveness.specs.Growth.{Unwritten}
+use Rattle.liveness.specs.Prelude.{IsLocation, Has, Unwritten}
 
 -- the two ways to say that a location is in a set
 pub in_set : (n l : ℕ) → Has n l ↔ IsBitSet n l

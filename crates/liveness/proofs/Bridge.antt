@@ -1,12 +1,11 @@
 -- What is live by what was read of the words is live by the words.
 use Rattle.std.proofs.Common.{◌≡◌, ℕ, ◌<◌, ◌↔◌, inl, inr, List, [], ◌∷◌, length, ◌∙◌, subst, arith}
 use Rattle.std.specs.Prelude.{slice_index, Result, Ok, Err, IfOk}
-use Rattle.space.specs.declared.program.Program.{Program}
+use Rattle.machines.specs.Prelude.{Program}
 use Rattle.code_words.specs.Words.{HasWords, first_of}
 use Rattle.liveness.specs.Live as live
-use Rattle.liveness.specs.Live.{IsRead, IsWritten, Sets, AreLive}
-use Rattle.liveness.specs.Flows.{Has, Leads, IsPath, IsLive, AreFlowsOf}
-use Rattle.liveness.specs.declared.flow.Flow.{Flow}
+use Rattle.liveness.specs.Prelude.{IsRead, IsWritten, Sets, AreLive, Has, AreFlowsOf, Flow}
+use Rattle.liveness.specs.Flows.{Leads, IsPath, IsLive}
 use Rattle.liveness.proofs.Bits.{in_set}
 use Rattle.liveness.proofs.Within.{located, small}
 

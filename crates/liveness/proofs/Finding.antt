@@ -3,9 +3,8 @@ use Rattle.std.proofs.Common.{◌≡◌, ℕ, ◌<◌, ◌↔◌, inl, inr, List
 use Rattle.std.specs.Prelude.{slice_index}
 use Rattle.std.proofs.lemmas.Bool.{cases_lt}
 use Rattle.std.proofs.lemmas.List.{get_or_default, get_or_past}
-use Rattle.liveness.specs.declared.flow.Flow.{Flow}
-use Rattle.liveness.specs.Flows.{Has, Leads, IsPath, IsLive}
-use Rattle.liveness.specs.Growth.{IsUnder, IsClosed, IsSettled, IsStart, Waits}
+use Rattle.liveness.specs.Prelude.{Flow, Has, IsUnder, IsClosed, IsSettled, IsStart, Waits}
+use Rattle.liveness.specs.Flows.{Leads, IsPath, IsLive}
 
 module _ (flows : List Flow) (sets : List ℕ) (waiting : List Bool) (stack : List ℕ) where
   module _ (start : IsStart flows (length flows) sets waiting stack) where

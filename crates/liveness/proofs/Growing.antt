@@ -8,9 +8,8 @@ use Rattle.std.proofs.lemmas.List.Elements.{Contains-push, Contains-append_left}
 use Rattle.std.proofs.Math.ListN.{length-append}
 use Rattle.std.proofs.lemmas.Bool.Decides.{eqb_tells}
 use Rattle.std.proofs.lemmas.List.Sums.{sum_by-set}
-use Rattle.liveness.specs.declared.flow.Flow.{Flow}
-use Rattle.liveness.specs.Flows.{Has, flow_at, Leads, IsLive}
-use Rattle.liveness.specs.Growth.{IsUnder, IsClosed, IsSettled, Waits, Unwritten, room}
+use Rattle.liveness.specs.Prelude.{Flow, Has, flow_at, IsUnder, IsClosed, IsSettled, Waits, Unwritten, room}
+use Rattle.liveness.specs.Flows.{Leads, IsLive}
 use Rattle.liveness.proofs.Bits.{joined}
 
 module _ (waiting : List Bool) (place : ℕ) (lt : place < length waiting) where

@@ -1,14 +1,11 @@
 -- What is live before a word, by what is live before the words behind it.
 use Rattle.std.proofs.Common.{◌≡◌, ℕ, ◌+◌, ◌<◌, ◌⊎◌, ◌↔◌, inl, inr, List, [], ◌∷◌, true, false, Some, None, length, refl, sym, ◌∙◌, ap, subst, arith, Contains}
 use Rattle.std.specs.Prelude.{slice_index}
-use Rattle.ppc_isa.specs.declared.instr.Instr.{Instr}
-use Rattle.ppc_isa.specs.declared.instr.Instr.TheVariants.{Branch, BranchConditional, BranchRegister, SystemCall}
-use Rattle.ppc_isa.specs.Legal.{IsWordOf, HasOneInstruction}
-use Rattle.ppc_isa.specs.Locations.{locations_read, locations_written}
+use Rattle.machines.specs.Prelude.{Instr, Branch, BranchConditional, BranchRegister, SystemCall, IsWordOf, HasOneInstruction, locations_read, locations_written}
 use Rattle.row_laws.specs.FlowWords.{is_flow}
-use Rattle.block_find.specs.Branches.{address_of, named_address}
-use Rattle.liveness.specs.Live.{CountsAsRead, named, anywhere, behind_call, leads_anywhere, is_call, falls_through, IsRead, IsWritten, Leads, IsPath, IsLive}
-use Rattle.liveness.specs.Laws.{IsLiveHere}
+use Rattle.block_find.specs.Prelude.{address_of, named_address}
+use Rattle.liveness.specs.Prelude.{CountsAsRead, named, anywhere, behind_call, leads_anywhere, is_call, falls_through, IsRead, IsWritten, IsLiveHere}
+use Rattle.liveness.specs.Live.{Leads, IsPath, IsLive}
 
 pub live_here : (first : ℕ) (words : List ℕ) (l k : ℕ) → IsLive first words l k ↔ IsLiveHere first words l k
 live_here first words l k = (λ live. there live.0 live.1, back) where

@@ -4,10 +4,8 @@ use Rattle.std.specs.Prelude.{slice_index}
 use Rattle.std.proofs.lemmas.Bool.{cases_lt}
 use Rattle.std.proofs.lemmas.List.{get_or_default}
 use Rattle.std.proofs.lemmas.Bool.Decides.{eqb_tells}
-use Rattle.liveness.specs.declared.flow.Flow.{Flow}
-use Rattle.liveness.specs.Flows.{Leads, flow_at}
-use Rattle.liveness.specs.Namers.{IsLast, AreNamers}
-use Rattle.liveness.specs.Growth.{IsSettled}
+use Rattle.liveness.specs.Prelude.{Flow, flow_at, IsLast, AreNamers, IsSettled}
+use Rattle.liveness.specs.Flows.{Leads}
 
 -- what leads to other words is settled, the word before falls settled, and so are the words from x on that name this one
 pub record IsSpread (flows : List Flow) (sets : List ℕ) (waiting : List Bool) (place x : ℕ) : Type 0 where

@@ -4,9 +4,8 @@ use Rattle.std.specs.Prelude.{slice_index, slice_index_or, None, Some}
 use Rattle.std.proofs.lemmas.List.{get_or_append_left, get_or_push, append-nil}
 use Rattle.std.proofs.lemmas.List.Elements.{Contains-push_cases}
 use Rattle.std.proofs.Math.ListN.{length-append}
-use Rattle.liveness.specs.declared.flow.Flow.{Flow}
+use Rattle.liveness.specs.Prelude.{Flow, IsUnder, IsSettled, Waits, Takes}
 use Rattle.liveness.specs.Flows.{Leads}
-use Rattle.liveness.specs.Growth.{IsUnder, IsSettled, Waits, Takes}
 
 module _ (flows : List Flow) (sets : List ℕ) (waiting : List Bool) (stack rest : List ℕ) where
   pub nothing_waits : stack ≡ rest ++ [] → (0 < length stack → false ≡ true) → IsUnder flows sets waiting stack

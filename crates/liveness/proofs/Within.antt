@@ -4,8 +4,8 @@ use Rattle.std.specs.Int.{bit_at}
 use Rattle.std.proofs.lemmas.Bool.{cases_lt}
 use Rattle.std.proofs.lemmas.Nat.{and_mask}
 use Rattle.std.proofs.lemmas.Nat.Bits.{bit_at_and, bit_at-lt, bit_at_ones, bit_at_ones_above, bit_at_above, same_from_bits}
-use Rattle.liveness.specs.declared.flow.Flow.{Flow}
-use Rattle.liveness.specs.Flows.{Has, flow_at, IsPath}
+use Rattle.liveness.specs.Prelude.{Flow, Has, flow_at}
+use Rattle.liveness.specs.Flows.{IsPath}
 
 one_or_zero : (x : ℕ) → x ≡ 1 → x ≡ 0 → ⊥
 one_or_zero x e f = omega arith

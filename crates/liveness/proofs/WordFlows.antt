@@ -1,15 +1,9 @@
 -- What counts as read at an instruction, and what a word's instruction says of the word.
 use Rattle.std.proofs.Common.{◌≡◌, ◌≢◌, ℕ, ◌+◌, ◌<◌, ◌^◌, ◌++◌, ◌∷◌, [], ◌⊎◌, ◌↔◌, inl, inr, Bool, true, false, Some, None, List, length, sym, ◌∙◌, ap, subst, arith, Contains, bit_or}
 use Rattle.std.specs.Prelude.{slice_index}
-use Rattle.ppc_isa.specs.declared.instr.Instr.{Instr}
-use Rattle.ppc_isa.specs.declared.locs.Locs.{Locs}
-use Rattle.ppc_isa.specs.Legal.{IsWordOf}
-use Rattle.ppc_isa.specs.Locations.{IsSetOf, locations_read, locations_written}
-use Rattle.block_find.specs.Branches.{Names}
-use Rattle.liveness.specs.Live.{CountsAsRead, named, anywhere, behind_call, leads_anywhere, is_call, falls_through}
-use Rattle.liveness.specs.Flows.{Has, nothing, IsFlowOf, AreFlowsTo}
-use Rattle.liveness.specs.Growth.{Unwritten}
-use Rattle.liveness.specs.declared.flow.Flow.{Flow}
+use Rattle.machines.specs.Prelude.{Instr, Locs, IsWordOf, IsSetOf, locations_read, locations_written}
+use Rattle.block_find.specs.Prelude.{Names}
+use Rattle.liveness.specs.Prelude.{CountsAsRead, named, anywhere, behind_call, leads_anywhere, is_call, falls_through, Has, nothing, IsFlowOf, AreFlowsTo, Unwritten, Flow}
 use Rattle.std.specs.Int.{bit_at}
 use Rattle.std.proofs.lemmas.Nat.Bits.{bit_at-zero}
 use Rattle.std.proofs.lemmas.Bool.Decides.{eqb_tells}

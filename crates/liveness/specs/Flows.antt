@@ -1,7 +1,7 @@
 -- What liveness needs of the code words, read once: sets of locations as numbers, and the words that may come behind.
 use Rattle.std.specs.Prelude.{◌≡◌, ℕ, ◌+◌, ◌<◌, ◌^◌, ◌⊎◌, ◌↔◌, List, IsTrue, false, length, slice_index_or}
 use Rattle.std.specs.Int.{bit_at}
-use Rattle.block_find.specs.Branches.{Names}
+use Rattle.block_find.specs.Prelude.{Names}
 use Rattle.liveness.specs.Live as live
 use Rattle.liveness.specs.Live.{IsRead, IsWritten, FallsThrough}
 use Rattle.liveness.specs.declared.flow.Flow.{Flow}

@@ -1,8 +1,6 @@
 -- What is live before a word, by what is live before the words behind it.
 use Rattle.std.specs.Prelude.{◌≡◌, ℕ, ◌+◌, ◌<◌, ◌⊎◌, ◌↔◌, List, false, Contains, length, slice_index}
-use Rattle.ppc_isa.specs.declared.instr.Instr.{Instr}
-use Rattle.ppc_isa.specs.Legal.{IsWordOf}
-use Rattle.ppc_isa.specs.Locations.{locations_read, locations_written}
+use Rattle.machines.specs.Prelude.{Instr, IsWordOf, locations_read, locations_written}
 use Rattle.row_laws.specs.FlowWords.{is_flow}
 use Rattle.liveness.specs.Live.{IsRead, IsWritten, Leads, IsLive}
 

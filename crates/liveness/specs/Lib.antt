@@ -3,3 +3,4 @@ pub mod Flows
 pub mod Namers
 pub mod Growth
 pub mod Laws
+pub mod Prelude

@@ -1,11 +1,8 @@
 -- Which locations are live before a code word: liveness of compilers, over the code words of a program. These stand one
 -- behind another from the address `first` on, and are named by their places, counted from 0.
 use Rattle.std.specs.Prelude.{◌≡◌, ℕ, ◌+◌, ◌<◌, ◌^◌, ◌⊎◌, ◌↔◌, List, [], ◌∷◌, IsTrue, Bool, true, false, not, ◌==◌, ◌&&◌, Contains, IsBitSet, length, slice_index}
-use Rattle.ppc_isa.specs.declared.instr.Instr.{Instr}
-use Rattle.ppc_isa.specs.declared.instr.Instr.TheVariants.{Branch, BranchConditional, BranchRegister, SystemCall}
-use Rattle.ppc_isa.specs.Legal.{IsWordOf, bo_0, bo_2}
-use Rattle.ppc_isa.specs.Locations.{locations_read, locations_written}
-use Rattle.block_find.specs.Branches.{Names}
+use Rattle.machines.specs.Prelude.{Instr, Branch, BranchConditional, BranchRegister, SystemCall, IsWordOf, bo_0, bo_2, locations_read, locations_written}
+use Rattle.block_find.specs.Prelude.{Names}
 
 -- there are 46 locations
 abbrev pub IsLocation : ℕ → Type 0

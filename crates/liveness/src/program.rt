@@ -1,7 +1,7 @@
 //! The live sets of a whole program.
 ghost use Rattle.std.specs.Prelude.{◌≡◌, ℕ, IfOk, List};
-ghost use Rattle.space.specs.declared.program.Kind.TheVariants.{PowerPc};
-ghost use Rattle.elf_load.specs.Faults.{IsProgramOf};
+ghost use Rattle.machines.specs.Prelude.{PowerPc};
+ghost use Rattle.elf_load.specs.Prelude.{IsProgramOf};
 ghost use Rattle.code_words.specs.Words.{HasWords, first_of};
 ghost use Rattle.liveness.specs.Live.{AreLive};
 

@@ -1,7 +1,7 @@
 //! Code words as what liveness needs of them.
 ghost use Rattle.std.specs.Prelude.{◌≡◌, ◌+◌, ◌<◌, ◌^◌, ◌↔◌, ℕ, IfOk, length};
-ghost use Rattle.ppc_isa.specs.Legal.{IsLegal};
-ghost use Rattle.block_find.specs.Branches.{Names};
+ghost use Rattle.machines.specs.Prelude.{IsLegal};
+ghost use Rattle.block_find.specs.Prelude.{Names};
 ghost use Rattle.liveness.specs.Live.{CountsAsRead, falls_through as falls_through_of, is_always as is_always_of, is_call as is_call_of, leads_anywhere as leads_anywhere_of};
 ghost use Rattle.liveness.specs.Flows.{Has, AreFlowsOf, IsFlowOf};
 

@@ -1,12 +1,9 @@
 -- What the answers of calls give.
 use Rattle.std.proofs.Common.{◌≡◌, ℕ, zero, suc, ◌+◌, List, [], length, min, take, ◌⊎◌, inl, inr, refl, ap}
 use Rattle.std.specs.Prelude.{Ok, Err}
-use Rattle.space.specs.declared.call.CallKind.{CallKind}
+use Rattle.machines.specs.Prelude.{CallKind, Program, AnswerValue, Got, Took, Error, given, error_of, block, put_block}
 use Rattle.space.specs.declared.call.CallKind.TheVariants as kind
-use Rattle.space.specs.declared.program.Program.{Program}
 use Rattle.space.specs.Memory.{Memory}
-use Rattle.space.specs.Reports.{AnswerValue, Got, Took, Error, given, error_of}
-use Rattle.machines.specs.Memory.{block, put_block}
 use Rattle.access.specs.Kept.{Keeps}
 use Rattle.machine_calls.specs.Calls.{listed_as, IsGiven}
 

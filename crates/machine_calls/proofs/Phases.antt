@@ -1,10 +1,6 @@
 -- What machines show behind a step.
 use Rattle.std.proofs.Common.{◌≡◌, sym, refl, ap, subst}
-use Rattle.space.specs.declared.call.Call.{Call}
-use Rattle.space.specs.declared.call.Event.{Event}
-use Rattle.space.specs.declared.call.Event.TheVariants.{Went, Asked, Ended}
-use Rattle.space.specs.Reports.{ListedCall, AnswerValue}
-use Rattle.runs.specs.Machine.{Outcome, Goes, Asks, Ends}
+use Rattle.machines.specs.Prelude.{Call, Event, Went, Asked, Ended, ListedCall, AnswerValue, Outcome, Goes, Asks, Ends}
 use Rattle.machine_calls.specs.declared.phase.Phase.{Phase}
 use Rattle.machine_calls.specs.declared.phase.Phase.TheVariants.{Going, Waiting, Over}
 use Rattle.machine_calls.specs.Phases.{phase_of, stepped, Tells, LeadsTo, ShownBy}

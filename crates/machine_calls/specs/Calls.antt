@@ -1,12 +1,8 @@
 -- A call that waits for its answer: what is listed of it, its buffer, and what an answer gives. This project's own.
 use Rattle.std.specs.Prelude.{◌≡◌, ℕ, Bool, true, false, Result, Ok, Err}
-use Rattle.space.specs.declared.call.Call.{Call}
-use Rattle.space.specs.declared.call.CallKind.{CallKind}
+use Rattle.machines.specs.Prelude.{Call, CallKind, Program, ArePermitted, ListedCall, Read, Write, Close, Given, Gives, Fails, block, put_block, each_byte, rights_of}
 use Rattle.space.specs.declared.call.CallKind.TheVariants as kind
-use Rattle.space.specs.declared.program.Program.{Program}
-use Rattle.space.specs.Memory.{Memory, ArePermitted}
-use Rattle.space.specs.Reports.{ListedCall, Read, Write, Close, Given, Gives, Fails}
-use Rattle.machines.specs.Memory.{block, put_block, each_byte, rights_of}
+use Rattle.space.specs.Memory.{Memory}
 use Rattle.access.specs.Kept.{Keeps}
 
 abbrev pub listed_as : CallKind → (fd at count : ℕ) → (ℕ → ℕ) → ListedCall

@@ -1,13 +1,7 @@
 -- How a machine stands between its steps, and where a run stands behind one.
 use Rattle.std.specs.Prelude.{◌≡◌, ◌≢◌, Bool, true, false}
-use Rattle.space.specs.declared.call.Call.{Call}
-use Rattle.space.specs.declared.call.End.{End}
-use Rattle.space.specs.declared.call.End.TheVariants.{Running, Dry}
-use Rattle.space.specs.declared.call.Event.{Event}
-use Rattle.space.specs.declared.call.Event.TheVariants.{Went, Asked, Ended}
-use Rattle.space.specs.Reports.{ListedCall, AnswerValue}
+use Rattle.machines.specs.Prelude.{Call, End, Running, Dry, Event, Went, Asked, Ended, ListedCall, AnswerValue, Outcome, Goes, Asks, Ends}
 use Rattle.space.specs.Memory.{Memory}
-use Rattle.runs.specs.Machine.{Outcome, Goes, Asks, Ends}
 use Rattle.machine_calls.specs.Calls.{HasBuffer}
 use Rattle.machine_calls.specs.declared.phase.Phase.{Phase}
 use Rattle.machine_calls.specs.declared.phase.Phase.TheVariants.{Going, Waiting, Over}

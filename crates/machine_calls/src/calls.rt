@@ -2,10 +2,7 @@
 
 ghost use Rattle.std.specs.Prelude.{◌≡◌, ◌≤◌, ℕ, IsTrue, true, false, length, min, take};
 ghost use Rattle.std.specs.Result.{IfErr};
-ghost use Rattle.space.specs.declared.program.Program.{Program};
-ghost use Rattle.space.specs.Memory.{ArePermitted};
-ghost use Rattle.space.specs.Reports.{answer_value, given, error_of as error_given};
-ghost use Rattle.machines.specs.Memory.{put_block};
+ghost use Rattle.machines.specs.Prelude.{Program, ArePermitted, answer_value, given, error_of as error_given, put_block};
 ghost use Rattle.access.specs.Kept.{Keeps};
 ghost use Rattle.machine_calls.specs.Calls.{HasBuffer, IsGiven, is_buffer, listed_call};
 

@@ -1,14 +1,6 @@
 -- Small programs that load and store.
 use Rattle.std.proofs.Common.{refl, arith}
-use Rattle.space.specs.declared.call.End.TheVariants.{Exit, Outside}
-use Rattle.ppc_isa.specs.declared.instr.Instr.TheVariants.{Immediate, Load, Store, StoreUpdate, Multiple}
-use Rattle.ppc_isa.specs.declared.instr.ImmediateOp.TheVariants.{Addis}
-use Rattle.ppc_isa.specs.declared.instr.LoadOp.TheVariants.{Lwz, Lbz}
-use Rattle.ppc_isa.specs.declared.instr.StoreOp.TheVariants.{Stw}
-use Rattle.ppc_isa.specs.declared.instr.StoreUpdateOp.TheVariants.{Stwu}
-use Rattle.ppc_isa.specs.declared.instr.MultipleOp.TheVariants.{Lmw, Stmw}
-use Rattle.machines.specs.Memory.{load_big, store_big, each_byte, is_held, is_writable, first_bytes}
-use Rattle.machines.specs.Guest.{store_registers}
+use Rattle.machines.specs.Prelude.{Exit, Outside, Immediate, Load, Store, StoreUpdate, Multiple, Addis, Lwz, Lbz, Stw, Stwu, Lmw, Stmw, load_big, store_big, each_byte, is_held, is_writable, first_bytes, store_registers}
 use Rattle.machines.specs.Examples.{program_of, EndsAt, load_word, push_frame, move_many, load_outside, store_to_code}
 use Rattle.machines.proofs.Steps.{addi_more, sc_last, word_more, word_more_if, word_last}
 use Rattle.machines.proofs.Small.{EndsSilently, ends_at}

@@ -1,10 +1,6 @@
 -- Small programs that record, branch on conditions, link and trap.
 use Rattle.std.proofs.Common.{refl, inl, inr, true, false}
-use Rattle.space.specs.declared.call.End.TheVariants.{Exit, Trap as Trapped}
-use Rattle.ppc_isa.specs.declared.instr.Instr.TheVariants.{Immediate, CompareImmediate, TrapImmediate, Branch, BranchConditional, BranchRegister, MoveFromCr, MoveFromSpr, MoveToSpr}
-use Rattle.ppc_isa.specs.declared.instr.ImmediateOp.TheVariants.{AddicRecord}
-use Rattle.ppc_isa.specs.declared.instr.CompareImmediateOp.TheVariants.{Cmpi}
-use Rattle.ppc_isa.specs.declared.instr.BranchRegisterOp.TheVariants.{Bclr}
+use Rattle.machines.specs.Prelude.{Exit, Trap as Trapped, Immediate, CompareImmediate, TrapImmediate, Branch, BranchConditional, BranchRegister, MoveFromCr, MoveFromSpr, MoveToSpr, AddicRecord, Cmpi, Bclr}
 use Rattle.machines.specs.Examples.{program_of, EndsAt, record_and_carry, compare, count_down, link, trap_equal}
 use Rattle.machines.proofs.Steps.{addi_more, add_more, sc_last, word_more, word_last}
 use Rattle.machines.proofs.Small.{EndsSilently, ends_at}

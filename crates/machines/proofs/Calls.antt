@@ -1,13 +1,7 @@
 -- The programs that read and write on the stack.
 use Rattle.std.proofs.Common.{◌≡◌, ℕ, ◌+◌, ◌%◌, ◌^◌, ◌≤◌, true, false, ltb, leb, List, [], ◌∷◌, length, replicate, Option, refl, ap, arith}
 use Rattle.std.proofs.lemmas.Bool.{le-ltb}
-use Rattle.space.specs.declared.call.End.TheVariants.{Exit, Outside, Dry}
-use Rattle.space.specs.Reports.{Read, Write, AnswerValue, Got, Took, Error, ended, listed, Given, Gives, Fails, given}
-use Rattle.runs.specs.Machine.{Ends}
-use Rattle.ppc_isa.specs.declared.instr.Instr.{Instr}
-use Rattle.machines.specs.Memory.{Rights, block, put_block, each_byte, is_within, is_held, is_writable, first_bytes, rights_of, code_of}
-use Rattle.machines.specs.Readings.{ReadsWords}
-use Rattle.machines.specs.Guest.{Guest, guest_machine, guest_start, writes, after_guest_call, guest_asks, guest_system_call, is_code_word, behind}
+use Rattle.machines.specs.Prelude.{Exit, Outside, Dry, Read, Write, AnswerValue, Got, Took, Error, ended, listed, Given, Gives, Fails, given, Ends, Instr, Rights, block, put_block, each_byte, is_within, is_held, is_writable, first_bytes, rights_of, code_of, ReadsWords, Guest, guest_machine, guest_start, writes, after_guest_call, guest_asks, guest_system_call, is_code_word, behind}
 use Rattle.machines.specs.Examples.{IsStack, bytes_of, program_of, EndsAt, write_64, write_65, wrote_64, WritesStack, write_and_exit, WriteGives, WriteAnswers, echo, Echoes, ReadAnswers}
 use Rattle.machines.proofs.Steps.{addi_then, addi_more, sc_exits, sc_asks, sc_dries, sc_last, off_ends}
 use Rattle.machines.proofs.Traces.{Trace, traced}

@@ -3,22 +3,7 @@ use Rattle.std.proofs.Common.{◌≡◌, ℕ, zero, suc, ◌+◌, ◌%◌, ◌^�
 use Rattle.std.proofs.Math.Path.{fun_ext}
 use Rattle.std.proofs.lemmas.List.{get_or-drop}
 use Rattle.std.proofs.lemmas.Grind.{get_or_after_one}
-use Rattle.space.specs.declared.call.End.{End}
-use Rattle.space.specs.declared.call.End.TheVariants.{Exit, Trap, Illegal, Outside, DivideFault}
-use Rattle.space.specs.Reports.{ListedCall, Read, Write, Close, AnswerValue, Given, Gives, Fails, given, listed}
-use Rattle.runs.specs.Machine.{Outcome, Goes, Asks, Ends, run, reported}
-use Rattle.ia_codec.specs.declared.op.Op.{Op}
-use Rattle.ia_codec.specs.declared.op.Op.TheVariants.{Unary, Jcc, Jmp, JmpTo, Int80, Int3, Ud2}
-use Rattle.ia_codec.specs.declared.op.UnaryOp.{UnaryOp}
-use Rattle.ia_codec.specs.declared.op.UnaryOp.TheVariants.{Div, Idiv}
-use Rattle.ia_codec.specs.declared.op.Operand.{Operand}
-use Rattle.ia_codec.specs.Effect.{Flags}
-use Rattle.ia_codec.specs.Rows.{host_row}
-use Rattle.ia_codec.specs.Registers.{eax, ecx, edx, ebx}
-use Rattle.machines.specs.Memory.{Rights, Code, is_code, each_byte, block, rights_of, code_of, first_bytes}
-use Rattle.machines.specs.Readings.{Fetched}
-use Rattle.machines.specs.Host.{Choice, Core, Host, no_choice, choice_at, chosen_word, chosen_flags, place_of, host_values, reads, does, goes_to, plain, jumps, jumps_to, faults_on, divides, unary_acts, after_host_call, host_asks, host_system_call, host_acts, host_executes, op_bytes, host_step, host_machine, host_start}
-use Rattle.machines.specs.Laws.{UsesFirstChoices}
+use Rattle.machines.specs.Prelude.{End, Exit, Trap, Illegal, Outside, DivideFault, ListedCall, Read, Write, Close, AnswerValue, Given, Gives, Fails, given, listed, Outcome, Goes, Asks, Ends, run, reported, Op, Unary, Jcc, Jmp, JmpTo, Int80, Int3, Ud2, UnaryOp, Div, Idiv, Operand, Flags, host_row, eax, ecx, edx, ebx, Rights, Code, is_code, each_byte, block, rights_of, code_of, first_bytes, Fetched, Choice, Core, Host, no_choice, choice_at, chosen_word, chosen_flags, place_of, host_values, reads, does, goes_to, plain, jumps, jumps_to, faults_on, divides, unary_acts, after_host_call, host_asks, host_system_call, host_acts, host_executes, op_bytes, host_step, host_machine, host_start, UsesFirstChoices}
 use Rattle.machines.proofs.Tests.{below}
 
 abbrev state : Core → ℕ → List Choice → Host

@@ -1,20 +1,7 @@
 -- With no right to read the code a step is the same, and clean, or goes outside; and a clean step is the same.
 use Rattle.std.proofs.Common.{◌≡◌, ℕ, zero, suc, ◌+◌, ◌%◌, ◌^◌, ◌⊎◌, inl, inr, Bool, true, false, cond, not, ◌&&◌, eqb, List, [], ◌∷◌, Option, Some, None, refl, ap}
-use Rattle.space.specs.declared.call.End.TheVariants.{Outside, DivideFault}
-use Rattle.space.specs.Reports.{AnswerValue}
-use Rattle.runs.specs.Machine.{Outcome, Goes, Asks, Ends, After, Along, AgreesFrom}
-use Rattle.runs.specs.Laws.{IsNarrower, StaysIn}
-use Rattle.ia_codec.specs.declared.op.Op.{Op}
-use Rattle.ia_codec.specs.declared.op.Op.TheVariants.{AluTo, AluFrom, AluImm, TestReg, TestImm, Unary, Imul, MovFrom, MovByteFrom, Shift, ShiftByCl, Extend, Cmov, Bsr, JmpTo, Int80}
-use Rattle.ia_codec.specs.declared.op.UnaryOp.{UnaryOp}
-use Rattle.ia_codec.specs.declared.op.UnaryOp.TheVariants.{Not, Neg, Div, Idiv}
-use Rattle.ia_codec.specs.declared.op.Operand.{Operand}
-use Rattle.ia_codec.specs.declared.op.Operand.TheVariants.{Reg}
-use Rattle.ia_codec.specs.Registers.{eax, ecx, edx}
-use Rattle.machines.specs.Memory.{each_byte, Rights, Code, is_code}
-use Rattle.machines.specs.Readings.{Fetched}
-use Rattle.machines.specs.Host.{Core, Host, Place, Register, Memory, place_of, choice_at, has_result, extend_size, bind, reads, gives_to, changes, sets, sets_byte, multiplies, goes_to, jumps_to, faults_on, unary_acts, host_system_call, host_acts, host_executes, op_bytes, host_step}
-use Rattle.machines.specs.Agreement.{is_apart, reads_apart, fetched_apart, IsClean, without}
+use Rattle.machines.specs.Prelude.{Outside, DivideFault, AnswerValue, Outcome, Goes, Asks, Ends, After, Along, AgreesFrom, IsNarrower, StaysIn, Op, AluTo, AluFrom, AluImm, TestReg, TestImm, Unary, Imul, MovFrom, MovByteFrom, Shift, ShiftByCl, Extend, Cmov, Bsr, JmpTo, Int80, UnaryOp, Not, Neg, Div, Idiv, Operand, Reg, eax, ecx, edx, each_byte, Rights, Code, is_code, Fetched, Core, Host, Place, Register, place_of, choice_at, has_result, extend_size, bind, reads, gives_to, changes, sets, sets_byte, multiplies, goes_to, jumps_to, faults_on, unary_acts, host_system_call, host_acts, host_executes, op_bytes, host_step, is_apart, reads_apart, fetched_apart, IsClean, without}
+use Rattle.machines.specs.Host.{Memory}
 use Rattle.machines.proofs.Tests.{both, first_of_both, second_of_both, equal}
 
 each_of_both : (p q : ℕ → Bool) (n a : ℕ) → each_byte (λ x. p x && q x) n a ≡ true → (each_byte p n a ≡ true) × (each_byte q n a ≡ true)

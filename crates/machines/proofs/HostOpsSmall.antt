@@ -2,18 +2,7 @@
 use Rattle.std.proofs.Common.{◌≡◌, ℕ, ◌+◌, ◌*◌, ◌/◌, ◌%◌, Bool, true, false, cond, not, List, drop, refl, ap, ◌∙◌, arith}
 use Rattle.std.proofs.lemmas.List.{get_or-drop}
 use Rattle.std.proofs.lemmas.Grind.{get_or_after_one}
-use Rattle.space.specs.declared.call.End.TheVariants.{Exit, DivideFault}
-use Rattle.runs.specs.Machine.{Ends}
-use Rattle.ia_codec.specs.declared.op.Op.TheVariants.{AluTo, Unary, MovTo, MovImm, MovToImm, ShiftByCl, Lea, Extend, Set, JmpTo, Int80}
-use Rattle.ia_codec.specs.declared.op.AluOp.TheVariants.{Cmp}
-use Rattle.ia_codec.specs.declared.op.UnaryOp.TheVariants.{Div}
-use Rattle.ia_codec.specs.declared.op.ShiftOp.TheVariants.{Shl}
-use Rattle.ia_codec.specs.declared.op.ExtendOp.TheVariants.{MovzxByte}
-use Rattle.ia_codec.specs.declared.op.Condition.TheVariants.{Equal, Less}
-use Rattle.ia_codec.specs.declared.op.Operand.TheVariants.{Reg, Abs, Pair}
-use Rattle.ia_codec.specs.Spelling.{IsReg}
-use Rattle.machines.specs.Memory.{each_byte, load, store, is_held, is_writable}
-use Rattle.machines.specs.Host.{Choice, no_choice, choice_at, chosen_flags}
+use Rattle.machines.specs.Prelude.{Exit, DivideFault, Ends, AluTo, Unary, MovTo, MovImm, MovToImm, ShiftByCl, Lea, Extend, Set, JmpTo, Int80, Cmp, Div, Shl, MovzxByte, Equal, Less, Reg, Abs, Pair, IsReg, each_byte, load, store, is_held, is_writable, Choice, no_choice, choice_at, chosen_flags}
 use Rattle.machines.specs.HostExamples.{host_program, HostEndsAt, HostEndsBy, host_shift, host_byte, host_divide, host_divide_by_zero, host_jump}
 use Rattle.machines.proofs.HostSmall.{EndsSilentlyBy, HostEndsSilently, ends_by, ends_at, op_more, op_last, reg_eax, reg_ebx}
 

@@ -1,22 +1,8 @@
 -- Small host programs that make no call.
 use Rattle.std.proofs.Common.{◌≡◌, ℕ, suc, ◌+◌, ◌-◌, ◌%◌, ◌^◌, Bool, true, false, cond, leb, List, length, take, drop, Option, Some, None, refl, ap, ◌∙◌, arith}
-use Rattle.space.specs.declared.program.Program.{Program}
-use Rattle.space.specs.declared.call.End.{End}
-use Rattle.space.specs.declared.call.End.TheVariants.{Exit, Trap, Illegal, Outside}
-use Rattle.space.specs.Reports.{ended}
-use Rattle.runs.specs.Machine.{Goes, Ends}
-use Rattle.ia_codec.specs.declared.op.Op.{Op}
-use Rattle.ia_codec.specs.declared.op.Op.TheVariants.{AluImm, MovTo, MovImm, Extend, Jcc, Jmp, Int80, Int3, Ud2}
-use Rattle.ia_codec.specs.declared.op.AluOp.TheVariants.{Cmp}
-use Rattle.ia_codec.specs.declared.op.ExtendOp.TheVariants.{MovzxByte}
-use Rattle.ia_codec.specs.declared.op.Condition.TheVariants.{Equal}
-use Rattle.ia_codec.specs.declared.op.Operand.TheVariants.{Reg, Abs}
-use Rattle.ia_codec.specs.Spelling.{spelling, IsReg, IsInProfile}
-use Rattle.ia_codec.specs.Reading.{read, byte_at, modrm_at, plain_at, plain_op}
+use Rattle.machines.specs.Prelude.{Program, End, Exit, Trap, Illegal, Outside, ended, Goes, Ends, Op, AluImm, MovTo, MovImm, Extend, Jcc, Jmp, Int80, Int3, Ud2, Cmp, MovzxByte, Equal, Reg, Abs, spelling, IsReg, IsInProfile, modrm_at, plain_at, plain_op, is_code, each_byte, load, store, is_held, is_writable, rights_of, code_of, Fetched, ReadsOps, Choice, Host, op_bytes, host_acts, host_executes, host_machine, host_start}
+use Rattle.ia_codec.specs.Reading.{read, byte_at}
 use Rattle.ia_codec.proofs.Spelt.{read-spelt}
-use Rattle.machines.specs.Memory.{is_code, each_byte, load, store, is_held, is_writable, rights_of, code_of}
-use Rattle.machines.specs.Readings.{Fetched, ReadsOps}
-use Rattle.machines.specs.Host.{Choice, Host, op_bytes, host_acts, host_executes, host_machine, host_start}
 use Rattle.machines.specs.HostExamples.{host_program, HostEndsAt, HostEndsBy, host_exit, host_unknown, host_branch, host_no_branch, host_memory, host_code_write, host_trap, host_ud2, host_nothing, host_off}
 use Rattle.machines.proofs.Tests.{upto}
 use Rattle.machines.proofs.Traces.{Silent, last, more, trace_of, traced, not_over}

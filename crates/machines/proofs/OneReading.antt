@@ -1,7 +1,6 @@
 -- There is one reading of words and one of bytes.
 use Rattle.std.proofs.Common.{◌≡◌, ℕ, List, Option, Some, None, refl, sym, ◌∙◌}
-use Rattle.ppc_isa.specs.declared.instr.Instr.{Instr}
-use Rattle.machines.specs.Readings.{ReadsWords, Fetched, ReadsOps}
+use Rattle.machines.specs.Prelude.{Instr, ReadsWords, Fetched, ReadsOps}
 
 pub one_of_words : (f g : ℕ → Option Instr) → ReadsWords f → ReadsWords g → (w : ℕ) → f w ≡ g w
 one_of_words f g p q w = by_value (f w) (g w) refl refl

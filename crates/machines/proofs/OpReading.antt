@@ -1,15 +1,9 @@
 -- A reading of bytes: what they are read as from the left, where they begin with its spelling.
 use Rattle.std.proofs.Common.{◌≡◌, ℕ, ◌^◌, ◌<◌, ◌≤◌, Bool, true, false, cond, not, ◌&&◌, eqb, ltb, leb, List, length, take, Option, Some, None, refl, sym, ap, ◌∙◌, subst, arith}
 use Rattle.std.proofs.lemmas.List.{length-take}
-use Rattle.ia_codec.specs.declared.op.Operand.{Operand}
-use Rattle.ia_codec.specs.declared.op.Operand.TheVariants.{Reg, Abs, Base, Pair}
-use Rattle.ia_codec.specs.declared.op.ExtendOp.TheVariants.{MovzxByte, MovzxHalf, MovsxByte, MovsxHalf}
-use Rattle.ia_codec.specs.declared.op.Op.{Op}
-use Rattle.ia_codec.specs.declared.op.Op.TheVariants.{AluTo, AluFrom, AluImm, TestReg, TestImm, Unary, Imul, MovTo, MovFrom, MovImm, MovToImm, MovHalfTo, MovByteTo, MovByteFrom, Shift, ShiftByCl, Lea, Extend, Bswap, Set, Cmov, Bsr, Cdq, Jcc, Jmp, JmpTo, Int80, Int3, Ud2}
-use Rattle.ia_codec.specs.Spelling.{spelling, IsReg, IsOperand, IsMemory, IsSum, IsByte, IsInProfile, IsSpelt}
+use Rattle.machines.specs.Prelude.{Operand, Reg, Abs, Base, Pair, MovzxByte, MovzxHalf, MovsxByte, MovsxHalf, Op, AluTo, AluFrom, AluImm, TestReg, TestImm, Unary, Imul, MovTo, MovFrom, MovImm, MovToImm, MovHalfTo, MovByteTo, MovByteFrom, Shift, ShiftByCl, Lea, Extend, Bswap, Set, Cmov, Bsr, Cdq, Jcc, Jmp, JmpTo, Int80, Int3, Ud2, spelling, IsReg, IsOperand, IsMemory, IsSum, IsByte, IsInProfile, IsSpelt, Fetched, ReadsOps}
 use Rattle.ia_codec.specs.Reading.{read}
 use Rattle.ia_codec.proofs.Spelt.{read-spelt}
-use Rattle.machines.specs.Readings.{Fetched, ReadsOps}
 use Rattle.machines.proofs.Tests.{both, first_of_both, second_of_both, unequal, is_unequal, below, is_below, upto, is_upto, same_list, same, is_same}
 
 -- a test that decides a statement

@@ -1,11 +1,6 @@
 -- The programs that make no call.
 use Rattle.std.proofs.Common.{ℕ, List, Option, refl}
-use Rattle.space.specs.declared.call.End.{End}
-use Rattle.space.specs.declared.call.End.TheVariants.{Exit, Illegal}
-use Rattle.space.specs.Reports.{ended, Fails}
-use Rattle.ppc_isa.specs.declared.instr.Instr.{Instr}
-use Rattle.machines.specs.Readings.{ReadsWords}
-use Rattle.machines.specs.Guest.{guest_machine, guest_start, writes, after_guest_call}
+use Rattle.machines.specs.Prelude.{End, Exit, Illegal, ended, Fails, Instr, ReadsWords, guest_machine, guest_start, writes, after_guest_call}
 use Rattle.machines.specs.Examples.{IsStack, program_of, EndsAt, exit_seven, unknown_call, jump, jump_back, add_negative, no_instruction}
 use Rattle.machines.proofs.Steps.{addi_more, add_more, branch_more, sc_more, sc_last, illegal_last}
 use Rattle.ppc_isa.specs.Reading.{read}

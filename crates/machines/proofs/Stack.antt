@@ -1,6 +1,6 @@
 -- The stack segment of the example programs.
 use Rattle.std.proofs.Common.{◌≡◌, ℕ, zero, suc, ◌+◌, ◌-◌, ◌%◌, ◌^◌, ◌<◌, ◌≤◌, Bool, true, false, cond, ◌&&◌, ◌||◌, ltb, leb, List, length, get_or, replicate, refl, subst, arith}
-use Rattle.machines.specs.Memory.{block, each_byte, is_within, is_held, is_writable, first_bytes}
+use Rattle.machines.specs.Prelude.{block, each_byte, is_within, is_held, is_writable, first_bytes}
 use Rattle.machines.specs.Examples.{IsStack, bytes_of, program_of}
 use Rattle.machines.proofs.Tests.{both, is_below, is_upto}
 

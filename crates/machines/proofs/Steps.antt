@@ -1,22 +1,8 @@
 -- Steps of the guest at code words of each kind.
 use Rattle.std.proofs.Common.{◌≡◌, ℕ, suc, ◌+◌, ◌%◌, ◌^◌, Bool, true, false, cond, ◌&&◌, eqb, ltb, List, [], ◌∷◌, Option, Some, None, refl, ap, ◌∙◌, arith}
-use Rattle.space.specs.declared.program.Program.{Program}
-use Rattle.space.specs.declared.call.End.TheVariants.{Outside, Dry, Illegal}
-use Rattle.space.specs.declared.call.End.{End}
-use Rattle.space.specs.Reports.{ListedCall, AnswerValue, Report, given, ended, listed}
-use Rattle.runs.specs.Machine.{Goes, Ends}
-use Rattle.ppc_isa.specs.declared.instr.Instr.{Instr}
-use Rattle.ppc_isa.specs.declared.instr.Instr.TheVariants.{Immediate, Arithmetic, Branch, SystemCall}
-use Rattle.ppc_isa.specs.declared.instr.ImmediateOp.TheVariants.{Addi}
-use Rattle.ppc_isa.specs.declared.instr.ArithmeticOp.TheVariants.{Add}
+use Rattle.machines.specs.Prelude.{Program, Outside, Dry, Illegal, End, ListedCall, AnswerValue, Report, given, ended, listed, Goes, Ends, Instr, Immediate, Arithmetic, Branch, SystemCall, Addi, Add, IsWordOf, Allowed, layout, Field, word, Fit, sign_extended, rights_of, code_of, ReadsWords, Guest, guest_machine, guest_acts, guest_executes, effect_of, is_code_word, word_at, branch_target, writes, guest_system_call, after_guest_call, guest_asks as asks_for}
 use Rattle.ppc_isa.specs.Reading.{read}
 use Rattle.ppc_isa.proofs.ReadWords.{read_legal}
-use Rattle.ppc_isa.specs.Legal.{IsWordOf, Allowed, layout}
-use Rattle.ppc_isa.specs.Word.{Field, word, Fit}
-use Rattle.word_kit.specs.Words.{sign_extended}
-use Rattle.machines.specs.Memory.{rights_of, code_of}
-use Rattle.machines.specs.Readings.{ReadsWords}
-use Rattle.machines.specs.Guest.{Guest, guest_machine, guest_acts, guest_executes, effect_of, is_code_word, word_at, branch_target, writes, guest_system_call, after_guest_call, guest_asks as asks_for}
 use Rattle.machines.proofs.Tests.{first_of_both, second_of_both, below}
 use Rattle.machines.proofs.Traces.{Trace, ends, goes, asks, dries, Silent, last, more}
 

@@ -1,9 +1,6 @@
 -- A run that is told step by step.
 use Rattle.std.proofs.Common.{◌≡◌, ℕ, zero, suc, ◌<◌, ◌≤◌, List, [], ◌∷◌, refl, ap, ◌∙◌, arith}
-use Rattle.space.specs.declared.call.End.{End}
-use Rattle.space.specs.declared.call.End.TheVariants.{Running, Dry}
-use Rattle.space.specs.Reports.{ListedCall, AnswerValue, Report, ended, listed}
-use Rattle.runs.specs.Machine.{Outcome, Goes, Asks, Ends, run, reported}
+use Rattle.machines.specs.Prelude.{End, Running, Dry, ListedCall, AnswerValue, Report, ended, listed, Outcome, Goes, Asks, Ends, run, reported}
 
 -- k steps that end the run, with these answers and this report
 pub data Trace {S : Type 0} (step : S → Outcome S) : ℕ → List AnswerValue → S → Report → Type 0 where

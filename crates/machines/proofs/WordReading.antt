@@ -1,14 +1,8 @@
 -- A reading of words: what the opcodes name, where the word is its.
 use Rattle.std.proofs.Common.{◌≡◌, ℕ, ◌/◌, ◌%◌, ◌^◌, inl, inr, Bool, true, false, cond, not, ◌&&◌, ◌||◌, eqb, ltb, List, [], ◌∷◌, Option, Some, None, refl, ap, ◌∙◌, subst}
-use Rattle.ppc_isa.specs.declared.instr.Instr.{Instr}
-use Rattle.ppc_isa.specs.declared.instr.Instr.TheVariants.{LoadUpdate, StoreUpdate, LoadIndexedUpdate, StoreIndexedUpdate, Multiple, MoveFromSpr, MoveToSpr, BranchRegister}
-use Rattle.ppc_isa.specs.declared.instr.MultipleOp.TheVariants.{Lmw}
-use Rattle.ppc_isa.specs.declared.instr.BranchRegisterOp.TheVariants.{Bcctr}
-use Rattle.ppc_isa.specs.Word.{Field, word, Fit}
-use Rattle.ppc_isa.specs.Legal.{layout, IsSpr, Allowed, IsWordOf}
+use Rattle.machines.specs.Prelude.{Instr, LoadUpdate, StoreUpdate, LoadIndexedUpdate, StoreIndexedUpdate, Multiple, MoveFromSpr, MoveToSpr, BranchRegister, Lmw, Bcctr, Field, word, Fit, layout, IsSpr, Allowed, IsWordOf, ReadsWords}
 use Rattle.ppc_isa.specs.Reading.{read}
 use Rattle.ppc_isa.proofs.ReadWords.{read_legal}
-use Rattle.machines.specs.Readings.{ReadsWords}
 use Rattle.machines.proofs.Tests.{both, first_of_both, second_of_both, equal, is_equal, unequal, is_unequal, below, is_below}
 
 abbrev fits : List Field → Bool

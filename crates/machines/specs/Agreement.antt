@@ -1,11 +1,11 @@
 -- When a translation agrees with its program.
 use Rattle.std.specs.Prelude.{◌≡◌, ℕ, Bool, true, not, ◌&&◌, eqb, cond, List, Option, Some, None}
 use Rattle.space.specs.declared.program.Program.{Program}
-use Rattle.runs.specs.Machine.{Outcome, AgreesFrom, Anywhere}
+use Rattle.runs.specs.Prelude.{Outcome, AgreesFrom, Anywhere}
 use Rattle.ppc_isa.specs.declared.instr.Instr.{Instr}
 use Rattle.ia_codec.specs.declared.op.Op.{Op}
 use Rattle.ia_codec.specs.declared.op.Op.TheVariants.{AluTo, AluFrom, AluImm, TestReg, TestImm, Unary, Imul, MovTo, MovFrom, MovImm, MovToImm, MovHalfTo, MovByteTo, MovByteFrom, Shift, ShiftByCl, Lea, Extend, Bswap, Set, Cmov, Bsr, Cdq, Jcc, Jmp, JmpTo, Int80, Int3, Ud2}
-use Rattle.ia_codec.specs.Registers.{eax, ecx, edx}
+use Rattle.ia_codec.specs.Prelude.{eax, ecx, edx}
 use Rattle.machines.specs.Memory.{each_byte, Rights, rights_of, Code, is_code, code_of}
 use Rattle.machines.specs.Readings.{ReadsWords, Fetched, ReadsOps}
 use Rattle.machines.specs.Guest.{guest_machine, guest_start}

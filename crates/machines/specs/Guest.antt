@@ -3,7 +3,7 @@ use Rattle.std.specs.Prelude.{ℕ, zero, suc, ◌+◌, ◌-◌, ◌*◌, ◌/◌
 use Rattle.space.specs.declared.call.End.TheVariants.{Exit, Trap as Trapped, Illegal, Outside}
 use Rattle.space.specs.declared.program.Program.{Program}
 use Rattle.space.specs.Reports.{ListedCall, Read, Write, Close, AnswerValue, Report, Given, Gives, Fails, given}
-use Rattle.runs.specs.Machine.{Outcome, Goes, Asks, Ends, run}
+use Rattle.runs.specs.Prelude.{Outcome, Goes, Asks, Ends, run}
 use Rattle.ppc_isa.specs.declared.instr.Instr.{Instr}
 use Rattle.ppc_isa.specs.declared.instr.Instr.TheVariants.{Immediate, LogicImmediate, Load, Store, LoadUpdate, StoreUpdate, Multiple, TrapImmediate, CompareImmediate, Rotate, Branch, BranchConditional, SystemCall, Arithmetic, ArithmeticUnary, Logic, ShiftImmediate, LogicUnary, Compare, Trap, MoveFromCr, MoveToCr, MoveFromSpr, MoveToSpr, Sync, LoadIndexed, StoreIndexed, LoadIndexedUpdate, StoreIndexedUpdate, MoveCrField, CrLogic, Isync, BranchRegister}
 use Rattle.ppc_isa.specs.declared.instr.ImmediateOp.{ImmediateOp}
@@ -20,7 +20,7 @@ use Rattle.ppc_isa.specs.declared.instr.BranchRegisterOp.TheVariants.{Bclr, Bcct
 use Rattle.ppc_isa.specs.Locations.{immediate_carries, immediate_records, carry_out, unary_carry, logic_immediate_records, logic_carries}
 use Rattle.ppc_isa.specs.Effect.{GuestValues, Effect, Access, NoAccess, LoadAccess, StoreAccess}
 use Rattle.ppc_isa.specs.Rows.{guest_row}
-use Rattle.word_kit.specs.Words.{sign_extended}
+use Rattle.word_kit.specs.Prelude.{sign_extended}
 use Rattle.machines.specs.Memory.{update, load_big, store_big, block, put_block, each_byte, Rights, Code, code_byte, rights_of, code_of, first_bytes}
 
 -- A value for each location, the next instruction's address, and memory. Locations are numbers: GPR g is g, LR 32,

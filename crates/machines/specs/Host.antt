@@ -3,7 +3,7 @@ use Rattle.std.specs.Prelude.{ℕ, ◌+◌, ◌-◌, ◌*◌, ◌/◌, ◌%◌, 
 use Rattle.space.specs.declared.call.End.TheVariants.{Exit, Trap, Illegal, Outside, DivideFault}
 use Rattle.space.specs.declared.program.Program.{Program}
 use Rattle.space.specs.Reports.{ListedCall, Read, Write, Close, AnswerValue, Report, Given, Gives, Fails, given}
-use Rattle.runs.specs.Machine.{Outcome, Goes, Asks, Ends, run}
+use Rattle.runs.specs.Prelude.{Outcome, Goes, Asks, Ends, run}
 use Rattle.ia_codec.specs.declared.op.Op.{Op}
 use Rattle.ia_codec.specs.declared.op.Op.TheVariants.{AluTo, AluFrom, AluImm, TestReg, TestImm, Unary, Imul, MovTo, MovFrom, MovImm, MovToImm, MovHalfTo, MovByteTo, MovByteFrom, Shift, ShiftByCl, Lea, Extend, Bswap, Set, Cmov, Bsr, Cdq, Jcc, Jmp, JmpTo, Int80, Int3, Ud2}
 use Rattle.ia_codec.specs.declared.op.AluOp.{AluOp}
@@ -14,9 +14,7 @@ use Rattle.ia_codec.specs.declared.op.ExtendOp.{ExtendOp}
 use Rattle.ia_codec.specs.declared.op.ExtendOp.TheVariants.{MovzxByte, MovzxHalf, MovsxByte, MovsxHalf}
 use Rattle.ia_codec.specs.declared.op.Operand.{Operand}
 use Rattle.ia_codec.specs.declared.op.Operand.TheVariants.{Reg, Abs, Base, Pair}
-use Rattle.ia_codec.specs.Effect.{Flags, HostValues, HostEffect}
-use Rattle.ia_codec.specs.Rows.{host_row}
-use Rattle.ia_codec.specs.Registers.{eax, ecx, edx, ebx}
+use Rattle.ia_codec.specs.Prelude.{Flags, HostValues, HostEffect, host_row, eax, ecx, edx, ebx}
 use Rattle.machines.specs.Memory.{update, load, store, block, put_block, each_byte, Rights, Code, is_code, rights_of, code_of, first_bytes}
 use Rattle.machines.specs.Readings.{Fetched}
 

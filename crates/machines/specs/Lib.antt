@@ -6,3 +6,4 @@ pub mod Agreement
 pub mod Examples
 pub mod Laws
 pub mod HostExamples
+pub mod Prelude

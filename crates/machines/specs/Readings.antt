@@ -4,7 +4,7 @@ use Rattle.std.specs.Prelude.{◌≡◌, ℕ, List, Option, Some}
 use Rattle.ppc_isa.specs.declared.instr.Instr.{Instr}
 use Rattle.ppc_isa.specs.Legal.{IsWordOf}
 use Rattle.ia_codec.specs.declared.op.Op.{Op}
-use Rattle.ia_codec.specs.Spelling.{IsSpelt}
+use Rattle.ia_codec.specs.Prelude.{IsSpelt}
 
 -- a word is read as an instruction exactly where it is the instruction's legal word
 pub record ReadsWords (reading : ℕ → Option Instr) : Type 0 where

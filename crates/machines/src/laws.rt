@@ -5,7 +5,7 @@ ghost use Rattle.space.specs.declared.program.Program.{Program};
 ghost use Rattle.machines.specs.Agreement.{AgreesWith, AgreesNarrowly, CleanReadsNoCode};
 ghost use Rattle.std.specs.Prelude.{◌≡◌, ◌++◌, ℕ, List};
 ghost use Rattle.ppc_isa.specs.Legal.{HasOneInstruction};
-ghost use Rattle.ia_codec.specs.Spelling.{spelling, IsInProfile};
+ghost use Rattle.ia_codec.specs.Prelude.{spelling, IsInProfile};
 ghost use Rattle.ia_codec.specs.declared.op.Op.{Op};
 
 use ia_codec::one_spelling;

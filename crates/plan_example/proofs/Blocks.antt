@@ -1,39 +1,20 @@
 -- The blocks, the adapter and the table of the example.
 use Rattle.std.proofs.Common.{◌≡◌, ◌≢◌, ℕ, zero, suc, ◌^◌, ◌<◌, ◌≤◌, ◌⊎◌, inl, inr, Bool, true, false, cond, eqb, List, [], ◌∷◌, length, Option, Some, None, Contains, refl, sym, ap, ◌∙◌, subst, arith}
 use Rattle.std.proofs.lemmas.Bool.{eqb-true, ne_eqb, false≢true}
-use Rattle.ppc_isa.specs.declared.instr.Instr.{Instr}
-use Rattle.ppc_isa.specs.declared.map.Map.{Map}
-use Rattle.ppc_isa.specs.Map.{IsMap}
-use Rattle.ppc_isa.specs.Legal.{IsWordOf}
-use Rattle.ia_codec.specs.Spelling.{IsReg}
-use Rattle.ia_codec.specs.declared.op.Op.TheVariants.{AluImm, MovTo, MovFrom}
-use Rattle.ia_codec.specs.declared.op.AluOp.TheVariants.{Add}
-use Rattle.ia_codec.specs.declared.op.Operand.TheVariants.{Reg, Abs}
-use Rattle.ia_codec.specs.Registers.{ebx, esi}
-use Rattle.reg_map.specs.Place.{slot_of}
+use Rattle.machines.specs.Prelude.{Instr, Map, IsMap, IsWordOf, IsReg, AluImm, MovTo, MovFrom, Add, Reg, Abs, ebx, esi, rights_of, code_of, Fetched, ReadsWords, ReadsOps, behind, is_code_word, word_at, guest_executes, Op, Guest}
+use Rattle.reg_map.specs.Prelude.{slot_of, IsHomePage}
 use Rattle.base_alu.specs.Tile.{tile as alu_tile}
-use Rattle.base_flow.specs.Tile.{tile as flow_tile}
-use Rattle.machines.specs.Memory.{rights_of, code_of}
-use Rattle.machines.specs.Readings.{Fetched, ReadsWords, ReadsOps}
-use Rattle.machines.specs.Guest.{behind, is_code_word, word_at, guest_executes}
-use Rattle.reg_map.specs.Representation.{IsHomePage}
-use Rattle.symbolic_tiles.specs.Flow.{Fits, flow}
+use Rattle.base_flow.specs.Prelude.{tile as flow_tile}
+use Rattle.symbolic_tiles.specs.Prelude.{Fits, flow}
 use Rattle.base_alu.proofs.Tiles.{tiles_are_placeable, tiles_do_rows}
 use Rattle.base_flow.proofs.Tiles.{flow_tiles_do_rows}
 use Rattle.symbolic_tiles.proofs.PlaceLaws.{programs_write_held}
-use Rattle.code_layout.specs.Places.{no_registers, entry_of}
-use Rattle.code_layout.specs.Code.{IsPlaceable, IsLaid}
+use Rattle.code_layout.specs.Prelude.{no_registers, entry_of, IsPlaceable, IsLaid}
 use Rattle.std.proofs.lemmas.List.Elements.{All-from_recursion}
 use Rattle.symbolic_tiles.specs.declared.flow_op.FlowOp.TheVariants.{Edge, Leap}
-use Rattle.ia_codec.specs.declared.op.Op.{Op}
-use Rattle.machines.specs.Guest.{Guest}
 use Rattle.code_layout.proofs.BuiltWords.{is_map}
-use Rattle.simulation.specs.Context.{IsOffCode}
-use Rattle.simulation.specs.Plan.{PlanStep, IsMove, IsTile, LeadsTo, EdgeAt, DoorAt, Begins}
-use Rattle.simulation.specs.Relation.{MovesKeep}
-use Rattle.laid_code.specs.Items.{ArePlaceable, AreSwitches, IsSwitch}
-use Rattle.laid_code.specs.Plans.{AreRight}
-use Rattle.laid_code.specs.Laws.{PlansStand}
+use Rattle.simulation.specs.Prelude.{IsOffCode, PlanStep, IsMove, IsTile, LeadsTo, EdgeAt, DoorAt, Begins, MovesKeep}
+use Rattle.laid_code.specs.Prelude.{ArePlaceable, AreSwitches, IsSwitch, AreRight, PlansStand}
 use Rattle.laid_code.proofs.Carried.{entry_or_hold}
 use Rattle.laid_code.proofs.Rows.{each_placeable, IsStraightWord, straight_tile, straight_leads}
 use Rattle.upkeep.specs.Written.{narrow_rights}

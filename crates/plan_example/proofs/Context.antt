@@ -1,21 +1,10 @@
 -- The context of the program and its translation.
 use Rattle.std.proofs.Common.{◌≡◌, ℕ, ◌+◌, ◌^◌, ◌-◌, ◌<◌, Bool, true, false, cond, eqb, List, [], ◌++◌, length, Option, Some, refl, sym, ap, ◌∙◌, subst, arith}
 use Rattle.std.proofs.lemmas.List.{append-nil, length-append}
-use Rattle.space.specs.declared.call.End.TheVariants.{Outside}
-use Rattle.ppc_isa.specs.declared.instr.Instr.{Instr}
-use Rattle.ppc_isa.specs.Legal.{IsWordOf}
-use Rattle.ia_codec.specs.Spelling.{spelling}
-use Rattle.ia_codec.specs.declared.op.Op.TheVariants.{Jmp}
-use Rattle.runs.specs.Machine.{Ends}
-use Rattle.machines.specs.Memory.{rights_of, code_of}
-use Rattle.machines.specs.Readings.{Fetched, ReadsWords, ReadsOps}
-use Rattle.machines.specs.Guest.{is_code_word, word_at, guest_executes}
-use Rattle.code_layout.specs.Code.{items_length}
-use Rattle.simulation.specs.Context.{SimulationContext, IsWordAt, IsOffCode, JumpsTo}
-use Rattle.laid_code.specs.Bytes.{HasBytes, RunsCode}
-use Rattle.laid_code.specs.Instance.{context_of}
-use Rattle.laid_code.specs.Items.{ArePlaced}
-use Rattle.laid_code.specs.Plans.{plan_items}
+use Rattle.machines.specs.Prelude.{Outside, Instr, IsWordOf, spelling, Jmp, Ends, rights_of, code_of, Fetched, ReadsWords, ReadsOps, is_code_word, word_at, guest_executes}
+use Rattle.code_layout.specs.Prelude.{items_length}
+use Rattle.simulation.specs.Prelude.{SimulationContext, IsWordAt, IsOffCode, JumpsTo}
+use Rattle.laid_code.specs.Prelude.{HasBytes, RunsCode, context_of, ArePlaced, plan_items}
 use Rattle.laid_code.proofs.Decoding.{first_bytes_at, next_bytes_at, jump_leads}
 use Rattle.laid_code.proofs.Lengths.{bytes_length}
 use Rattle.plan_example.specs.Example.{program, translation, first, interface, from_none, from_esi, from_ebx, area, hold, entries, target, places, block, first_block, last_block, second_block, third_block, adapter, first_plan, last_plan, second_plan, third_plan, code}

@@ -2,9 +2,9 @@
 use Rattle.std.proofs.Common.{◌≡◌, ℕ, zero, suc, ◌^◌, ◌<◌, Bool, true, false, ltb, ◌&&◌, List, [], ◌∷◌, slice_index, refl, arith}
 use Rattle.std.proofs.lemmas.Bool.{ltb-true}
 use Rattle.std.proofs.lemmas.List.Elements.{All-nil, All-cons, All-from_recursion}
-use Rattle.space.specs.declared.program.Segment.{Segment}
-use Rattle.elf_load.specs.Area.{IsArea, MeetsArea}
-use Rattle.code_layout.specs.Code.{items_bytes}
+use Rattle.machines.specs.Prelude.{Segment}
+use Rattle.elf_load.specs.Prelude.{IsArea, MeetsArea}
+use Rattle.code_layout.specs.Prelude.{items_bytes}
 use Rattle.upkeep.specs.Loaded.{AreBytes, HaveBytes}
 use Rattle.upkeep.specs.Written.{IsWritten}
 use Rattle.plan_example.specs.Example.{program, translation, area, word_bytes, table, code, entries}

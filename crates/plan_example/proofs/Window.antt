@@ -1,18 +1,10 @@
 -- add esi,5 does what addi r3,r3,2 and addi r3,r3,3 do, where r3 is in esi.
 use Rattle.std.proofs.Common.{◌≡◌, ◌≢◌, ℕ, ◌+◌, ◌%◌, ◌^◌, ◌<◌, Bool, true, false, cond, eqb, if◌then◌else◌, rules, [], ◌∷◌, Some, None, refl, sym, ap, ◌∙◌, subst, arith}
 use Rattle.std.proofs.lemmas.Bool.{eqb-true, eq-eqb, false≢true}
-use Rattle.ia_codec.specs.declared.op.AluOp.TheVariants.{Add}
-use Rattle.ia_codec.specs.declared.op.Op.TheVariants.{AluImm}
-use Rattle.ia_codec.specs.declared.op.Operand.TheVariants.{Reg}
-use Rattle.ia_codec.specs.Rows.{sum_word, sum_flags}
-use Rattle.ia_codec.specs.Registers.{esi}
-use Rattle.reg_map.specs.Home.{home, home_size, location_range}
-use Rattle.runs.specs.Machine.{Goes}
-use Rattle.machines.specs.Memory.{update}
-use Rattle.machines.specs.Guest.{Guest, behind}
-use Rattle.machines.specs.Host.{Core, Memory, value_at}
-use Rattle.reg_map.specs.Representation.{in_slot, location_place, AreInRange}
-use Rattle.symbolic_tiles.specs.Row.{TilePostcondition, Implements}
+use Rattle.machines.specs.Prelude.{Add, AluImm, Reg, sum_word, sum_flags, esi, Goes, update, Guest, behind, Core, value_at}
+use Rattle.reg_map.specs.Prelude.{home, home_size, location_range, in_slot, location_place, AreInRange}
+use Rattle.machines.specs.Host.{Memory}
+use Rattle.symbolic_tiles.specs.Prelude.{TilePostcondition, Implements}
 use Rattle.symbolic_tiles.proofs.Memory.{update_other, update_keeps}
 use Rattle.plan_example.specs.Example.{in_esi, both_adds}
 

@@ -1,9 +1,7 @@
 -- The words of the program.
 use Rattle.std.proofs.Common.{◌≡◌, ℕ, zero, suc, ◌+◌, ◌*◌, ◌^◌, ◌<◌, ◌⊎◌, inl, inr, true, slice_index, refl, arith}
 use Rattle.std.proofs.lemmas.Bool.Decides.{nat_tests}
-use Rattle.ppc_isa.specs.Legal.{IsLegal, IsWordOf}
-use Rattle.machines.specs.Memory.{code_of}
-use Rattle.machines.specs.Guest.{is_code_word, word_at}
+use Rattle.machines.specs.Prelude.{IsLegal, IsWordOf, code_of, is_code_word, word_at}
 use Rattle.code_words.specs.Words.{HasWords}
 use Rattle.plan_example.specs.Example.{program, words, adds, back}
 

@@ -2,27 +2,14 @@
 use Rattle.std.specs.Prelude.{ℕ, ◌+◌, ◌-◌, ◌^◌, cond, eqb, true, false, List, [], ◌∷◌, ◌++◌, Some, None}
 use Rattle.std.specs.List.{flat_map}
 use Rattle.byteorder.specs.Endian.{little_bytes}
-use Rattle.space.specs.declared.program.Kind.TheVariants.{PowerPc, Ia32}
-use Rattle.space.specs.declared.program.Program.{Program}
-use Rattle.ppc_isa.specs.declared.instr.Instr.{Instr}
-use Rattle.ppc_isa.specs.declared.instr.Instr.TheVariants.{Immediate, Branch}
-use Rattle.ppc_isa.specs.declared.instr.ImmediateOp.TheVariants.{Addi}
-use Rattle.ppc_isa.specs.declared.map.Map.{Map}
-use Rattle.ia_codec.specs.Spelling.{spelling}
-use Rattle.ia_codec.specs.declared.op.Op.TheVariants.{AluImm, MovTo, MovFrom, Jmp}
-use Rattle.ia_codec.specs.declared.op.AluOp.TheVariants.{Add}
-use Rattle.ia_codec.specs.declared.op.Operand.TheVariants.{Reg, Abs}
-use Rattle.ia_codec.specs.Registers.{ebx, esi}
-use Rattle.reg_map.specs.Home.{gpr_home}
+use Rattle.machines.specs.Prelude.{PowerPc, Ia32, Program, Instr, Immediate, Branch, Addi, Map, spelling, AluImm, MovTo, MovFrom, Jmp, Add, Reg, Abs, ebx, esi}
+use Rattle.reg_map.specs.Prelude.{gpr_home}
 use Rattle.base_alu.specs.Tile.{tile as alu_tile}
-use Rattle.base_flow.specs.Tile.{tile as flow_tile}
-use Rattle.symbolic_tiles.specs.Row.{Window, window_of}
-use Rattle.code_layout.specs.Places.{no_registers, Moves, Places}
-use Rattle.code_layout.specs.Code.{items_bytes}
-use Rattle.simulation.specs.Windows.{rows_of}
-use Rattle.simulation.specs.Plan.{PlanStep, Move, Tile, FlowTile}
-use Rattle.laid_code.specs.Instance.{Interface}
-use Rattle.laid_code.specs.Plans.{plan_items}
+use Rattle.base_flow.specs.Prelude.{tile as flow_tile}
+use Rattle.symbolic_tiles.specs.Prelude.{Window, window_of}
+use Rattle.code_layout.specs.Prelude.{no_registers, Moves, Places, items_bytes}
+use Rattle.simulation.specs.Prelude.{rows_of, PlanStep, Move, Tile, FlowTile}
+use Rattle.laid_code.specs.Prelude.{Interface, plan_items}
 use Rattle.upkeep.specs.Written.{written_segments}
 
 -- addi r3,r3,1; addi r3,r3,2; addi r3,r3,3; b to the first, from this address on

@@ -1,6 +1,6 @@
 //! What holds of the example. The law is the contract of a function that calls the laws that it rests on.
 
-ghost use Rattle.machines.specs.Agreement.{AgreesWith};
+ghost use Rattle.machines.specs.Prelude.{AgreesWith};
 ghost use Rattle.plan_example.specs.Example.{program, translation};
 
 use laid_code::plans_stand;

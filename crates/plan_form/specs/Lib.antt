@@ -4,3 +4,4 @@ pub mod Full
 pub mod Labels
 pub mod Faults
 pub mod Keys
+pub mod Prelude

@@ -1,10 +1,9 @@
 -- The term of each row over any operations, and which rows are products and divisions.
 use Rattle.std.specs.Prelude.{Bool, false}
-use Rattle.word_kit.specs.Operations.{Operations}
+use Rattle.word_kit.specs.Prelude.{Operations}
 use Rattle.ppc_isa.specs.declared.instr.Instr.{Instr}
 use Rattle.ppc_isa.specs.declared.instr.Instr.TheVariants.{Immediate, LogicImmediate, Load, Store, LoadUpdate, StoreUpdate, Multiple, TrapImmediate, CompareImmediate, Rotate, Branch, BranchConditional, SystemCall, Arithmetic, ArithmeticUnary, Logic, ShiftImmediate, LogicUnary, Compare, Trap, MoveFromCr, MoveToCr, MoveFromSpr, MoveToSpr, Sync, LoadIndexed, StoreIndexed, LoadIndexedUpdate, StoreIndexedUpdate, MoveCrField, CrLogic, Isync, BranchRegister}
-use Rattle.ppc_parts.specs.Made.{RowMade}
-use Rattle.ppc_parts.specs.RecordingTerms.{unchanged_term}
+use Rattle.ppc_parts.specs.Prelude.{RowMade, unchanged_term}
 use Rattle.ppc_parts.specs.declared.given.GuestIn.{GuestIn}
 use Rattle.ppc_bits.specs.LogicTerms.{logic_term, logic_immediate_term}
 use Rattle.ppc_bits.specs.ShiftTerms.{rotate_term, srawi_term, logic_unary_term}

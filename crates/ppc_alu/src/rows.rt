@@ -5,7 +5,7 @@ ghost use Rattle.word_kit.specs.Algebra.{MayUntie};
 ghost use Rattle.ppc_isa.specs.Legal.{layout, IsLegal};
 ghost use Rattle.ppc_isa.specs.Rows.{guest_row};
 ghost use Rattle.ppc_isa.specs.Word.{Fit};
-ghost use Rattle.ppc_parts.specs.Meanings.{IsOwned, values_of, GivesEffect};
+ghost use Rattle.ppc_parts.specs.Prelude.{IsOwned, values_of, GivesEffect};
 ghost use Rattle.ppc_alu.specs.RowTerms.{is_product_row, row_term};
 
 use ppc_bits::{logic_immediate_row, logic_row, logic_unary_row, rotate, srawi};

@@ -4,8 +4,7 @@ use Rattle.std.proofs.Math.Nat.{mul-mod_left, div-eq_of_lt, div-div-eq-div-mul}
 use Rattle.std.proofs.lemmas.Bool.Decides.{nat_tests}
 use Rattle.std.proofs.lemmas.Nat.{pow-add}
 use Rattle.std.proofs.Math.Pow.{pow_pos}
-use Rattle.word_kit.specs.Words.{complement, is_negative}
-use Rattle.word_kit.specs.Bits.{bit_of, shifted_left, shifted_right, shifted_arith}
+use Rattle.word_kit.specs.Prelude.{complement, is_negative, bit_of, shifted_left, shifted_right, shifted_arith}
 use Rattle.ppc_isa.specs.ShiftRows.{left_by, right_by, arith_by}
 
 far_amount : (b : ℕ) → b / 2 ^ 5 % 2 ≡ 1 → b % 64 ≡ b % 32 + 32

@@ -1,12 +1,11 @@
 -- The terms of logic. Complements come after the operation, or before it of rB alone.
 use Rattle.std.specs.Prelude.{Bool, true, false}
-use Rattle.word_kit.specs.Operations.{Operations}
+use Rattle.word_kit.specs.Prelude.{Operations}
 use Rattle.ppc_isa.specs.declared.instr.LogicImmediateOp.{LogicImmediateOp}
 use Rattle.ppc_isa.specs.declared.instr.LogicImmediateOp.TheVariants.{Ori, Oris, Xori, Xoris, Andi, Andis}
 use Rattle.ppc_isa.specs.declared.instr.LogicOp.{LogicOp}
 use Rattle.ppc_isa.specs.declared.instr.LogicOp.TheVariants.{And, Or, Xor, Nand, Nor, Eqv, Andc, Orc, Slw, Srw, Sraw}
-use Rattle.ppc_parts.specs.Made.{RowMade}
-use Rattle.ppc_parts.specs.RecordingTerms.{gives_a_term}
+use Rattle.ppc_parts.specs.Prelude.{RowMade, gives_a_term}
 use Rattle.ppc_parts.specs.declared.given.GuestIn.{GuestIn}
 use Rattle.ppc_bits.specs.ShiftTerms.{slw_term, srw_term, sraw_term}
 

@@ -1,6 +1,6 @@
 -- What parts of rows mean.
 use Rattle.std.specs.Prelude.{ℕ, Bool, not, ◌&&◌, eqb}
-use Rattle.word_kit.specs.Words.{is_negative}
+use Rattle.word_kit.specs.Prelude.{is_negative}
 use Rattle.ppc_isa.specs.Effect.{GuestValues, Effect}
 use Rattle.ppc_isa.specs.Recording.{with_ca, gives_a}
 

@@ -1,15 +1,11 @@
 -- The terms of shifts, rotates, counts and extensions. An amount of six bits: bit 5 is looked at apart.
 use Rattle.std.specs.Prelude.{ℕ, zero, suc, ◌-◌, Bool}
-use Rattle.word_kit.specs.Bits.{mask}
-use Rattle.word_kit.specs.Operations.{Operations, WordMade, FlagMade}
-use Rattle.word_kit.specs.Words.{complement}
+use Rattle.word_kit.specs.Prelude.{mask, Operations, WordMade, FlagMade, complement}
 use Rattle.ppc_isa.specs.declared.instr.LogicUnaryOp.{LogicUnaryOp}
 use Rattle.ppc_isa.specs.declared.instr.LogicUnaryOp.TheVariants.{Cntlzw, Extsb, Extsh}
 use Rattle.ppc_isa.specs.declared.instr.RotateOp.{RotateOp}
 use Rattle.ppc_isa.specs.declared.instr.RotateOp.TheVariants.{Rlwinm, Rlwnm, Rlwimi}
-use Rattle.ppc_parts.specs.Made.{RowMade}
-use Rattle.ppc_parts.specs.OperandTerms.{extended_term}
-use Rattle.ppc_parts.specs.RecordingTerms.{gives_a_term, with_xer}
+use Rattle.ppc_parts.specs.Prelude.{RowMade, extended_term, gives_a_term, with_xer}
 use Rattle.ppc_parts.specs.declared.given.GuestIn.{GuestIn}
 
 module _ {W B H : Type 0} (ops : Operations W B H) where

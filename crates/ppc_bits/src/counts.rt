@@ -1,10 +1,11 @@
 //! The count of leading zeros.
 
 ghost use Rattle.std.specs.Prelude.{◌≡◌, ◌≤◌, IfOk, OnErr, IsTrue};
-ghost use Rattle.word_kit.specs.Algebra.{IsLater, GivesWord};
+ghost use Rattle.word_kit.specs.Prelude.{GivesWord};
+ghost use Rattle.word_kit.specs.Algebra.{IsLater};
 ghost use Rattle.ppc_isa.specs.Recording.{gives_a};
 ghost use Rattle.ppc_isa.specs.ShiftRows.{leading_zeros};
-ghost use Rattle.ppc_parts.specs.Meanings.{IsOwned, values_of, GivesEffect};
+ghost use Rattle.ppc_parts.specs.Prelude.{IsOwned, values_of, GivesEffect};
 ghost use Rattle.ppc_bits.specs.ShiftTerms.{zeros_term, cntlzw_term};
 
 use ppc_parts::{Effect, GuestIn, gives_a};

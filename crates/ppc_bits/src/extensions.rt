@@ -4,7 +4,7 @@ ghost use Rattle.std.specs.Prelude.{◌≡◌, IfOk, OnErr, IsTrue};
 ghost use Rattle.word_kit.specs.Algebra.{IsLater};
 ghost use Rattle.ppc_isa.specs.AccessRows.{byte_extended, half_extended};
 ghost use Rattle.ppc_isa.specs.Recording.{gives_a};
-ghost use Rattle.ppc_parts.specs.Meanings.{IsOwned, values_of, GivesEffect};
+ghost use Rattle.ppc_parts.specs.Prelude.{IsOwned, values_of, GivesEffect};
 ghost use Rattle.ppc_bits.specs.ShiftTerms.{exts_term};
 
 use ppc_parts::{Effect, GuestIn, extended_byte, extended_half, gives_a};

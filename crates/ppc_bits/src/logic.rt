@@ -2,10 +2,9 @@
 
 ghost use Rattle.std.specs.Prelude.{◌≡◌, ◌≤◌, IfOk, OnErr, IsTrue};
 ghost use Rattle.word_kit.specs.Algebra.{IsLater};
-ghost use Rattle.word_kit.specs.Bits.{word_and, word_or, word_xor};
-ghost use Rattle.word_kit.specs.Words.{complement};
+ghost use Rattle.word_kit.specs.Prelude.{word_and, word_or, word_xor, complement};
 ghost use Rattle.ppc_isa.specs.Recording.{gives_a};
-ghost use Rattle.ppc_parts.specs.Meanings.{IsOwned, values_of, GivesEffect};
+ghost use Rattle.ppc_parts.specs.Prelude.{IsOwned, values_of, GivesEffect};
 ghost use Rattle.ppc_bits.specs.LogicTerms.{and_term, or_term, xor_term, nand_term, nor_term, eqv_term};
 
 use ppc_parts::{Effect, GuestIn, gives_a};

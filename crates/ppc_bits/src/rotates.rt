@@ -2,11 +2,10 @@
 
 ghost use Rattle.std.specs.Prelude.{◌≡◌, ◌<◌, ◌≤◌, IfOk, OnErr, IsTrue};
 ghost use Rattle.word_kit.specs.Algebra.{IsLater};
-ghost use Rattle.word_kit.specs.Bits.{word_and, rotated, mask, word_or};
-ghost use Rattle.word_kit.specs.Words.{complement};
+ghost use Rattle.word_kit.specs.Prelude.{word_and, rotated, mask, word_or, complement};
 ghost use Rattle.ppc_isa.specs.Recording.{gives_a};
 ghost use Rattle.ppc_isa.specs.RotateRows.{rotate};
-ghost use Rattle.ppc_parts.specs.Meanings.{IsOwned, values_of, GivesEffect};
+ghost use Rattle.ppc_parts.specs.Prelude.{IsOwned, values_of, GivesEffect};
 ghost use Rattle.ppc_bits.specs.ShiftTerms.{masked_term, inserted_term, rotate_term};
 
 use ppc_isa::RotateOp;

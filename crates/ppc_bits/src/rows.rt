@@ -6,7 +6,7 @@ ghost use Rattle.ppc_isa.specs.Locations.{logic_immediate_records};
 ghost use Rattle.ppc_isa.specs.LogicRows.{logic_immediate};
 ghost use Rattle.ppc_isa.specs.Recording.{gives_a};
 ghost use Rattle.ppc_isa.specs.Rows.{logic_row, logic_unary_row};
-ghost use Rattle.ppc_parts.specs.Meanings.{IsOwned, values_of, GivesEffect};
+ghost use Rattle.ppc_parts.specs.Prelude.{IsOwned, values_of, GivesEffect};
 ghost use Rattle.ppc_bits.specs.LogicTerms.{logic_immediate_term, logic_term};
 ghost use Rattle.ppc_bits.specs.ShiftTerms.{logic_unary_term};
 

@@ -1,11 +1,11 @@
 //! Shifts.
 
 ghost use Rattle.std.specs.Prelude.{◌≡◌, ◌≤◌, ◌%◌, IfOk, OnErr, IsTrue, not, ◌&&◌, eqb, ◌<◌};
-ghost use Rattle.word_kit.specs.Algebra.{IsLater, GivesWord, GivesFlag};
-ghost use Rattle.word_kit.specs.Words.{is_negative};
+ghost use Rattle.word_kit.specs.Prelude.{GivesWord, GivesFlag, is_negative};
+ghost use Rattle.word_kit.specs.Algebra.{IsLater};
 ghost use Rattle.ppc_isa.specs.Recording.{gives_a};
 ghost use Rattle.ppc_isa.specs.ShiftRows.{left_by, right_by, arith_by, shifted_algebraic};
-ghost use Rattle.ppc_parts.specs.Meanings.{IsOwned, values_of, GivesEffect};
+ghost use Rattle.ppc_parts.specs.Prelude.{IsOwned, values_of, GivesEffect};
 ghost use Rattle.ppc_bits.specs.Meant.{algebraic};
 ghost use Rattle.ppc_bits.specs.ShiftTerms.{left_term, right_term, arith_term, slw_term, srw_term, lost_term, algebraic_term, srawi_term, sraw_term};
 

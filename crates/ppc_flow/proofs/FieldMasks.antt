@@ -2,8 +2,7 @@
 use Rattle.std.proofs.Common.{◌≡◌, ℕ, zero, suc, ◌+◌, ◌*◌, ◌/◌, ◌%◌, ◌^◌, ◌<◌, ◌≤◌, refl, ◌∙◌, sym, ap, Bool, true, false, arith}
 use Rattle.std.proofs.Math.Nat.{pow-succ', mod-eq_of_lt}
 use Rattle.std.proofs.Math.Pow.{pow_mono}
-use Rattle.word_kit.specs.Words.{one_if}
-use Rattle.word_kit.specs.Bits.{bit_of, of_bits}
+use Rattle.word_kit.specs.Prelude.{one_if, bit_of, of_bits}
 
 one_most : (b : Bool) (p : ℕ) → one_if b * p ≤ p
 one_most true p = omega arith

@@ -1,10 +1,9 @@
 -- The terms of branches.
 use Rattle.std.specs.Prelude.{ℕ, ◌-◌, Bool, true, false, cond}
-use Rattle.word_kit.specs.Operations.{Operations, WordMade, FlagMade}
+use Rattle.word_kit.specs.Prelude.{Operations, WordMade, FlagMade}
 use Rattle.ppc_isa.specs.BranchRows.{bo_bit}
 use Rattle.ppc_isa.specs.SumRows.{ones}
-use Rattle.ppc_parts.specs.Made.{RowMade}
-use Rattle.ppc_parts.specs.RecordingTerms.{unchanged_term}
+use Rattle.ppc_parts.specs.Prelude.{RowMade, unchanged_term}
 use Rattle.ppc_parts.specs.declared.given.Effect.{Effect}
 use Rattle.ppc_parts.specs.declared.given.GuestIn.{GuestIn}
 

@@ -1,12 +1,11 @@
 -- The terms of compares.
 use Rattle.std.specs.Prelude.{ℕ, Bool, true, false}
-use Rattle.word_kit.specs.Operations.{Operations}
+use Rattle.word_kit.specs.Prelude.{Operations}
 use Rattle.ppc_isa.specs.declared.instr.CompareImmediateOp.{CompareImmediateOp}
 use Rattle.ppc_isa.specs.declared.instr.CompareImmediateOp.TheVariants.{Cmpi, Cmpli}
 use Rattle.ppc_isa.specs.declared.instr.CompareOp.{CompareOp}
 use Rattle.ppc_isa.specs.declared.instr.CompareOp.TheVariants.{Cmp, Cmpl}
-use Rattle.ppc_parts.specs.Made.{RowMade}
-use Rattle.ppc_parts.specs.RecordingTerms.{compared_term, unchanged_term}
+use Rattle.ppc_parts.specs.Prelude.{RowMade, compared_term, unchanged_term}
 use Rattle.ppc_parts.specs.declared.given.GuestIn.{GuestIn}
 
 module _ {A W B H : Type 0} (ops : Operations W B H) where

@@ -1,12 +1,10 @@
 -- The terms of moves of CR and the special registers.
 use Rattle.std.specs.Prelude.{ℕ, ◌+◌, ◌-◌, ◌*◌, cond, eqb}
-use Rattle.word_kit.specs.Operations.{Operations, FlagMade}
-use Rattle.word_kit.specs.Words.{complement}
+use Rattle.word_kit.specs.Prelude.{Operations, FlagMade, complement}
 use Rattle.ppc_isa.specs.FieldRows.{fields_mask, xer_mask}
 use Rattle.ppc_isa.specs.declared.instr.CrLogicOp.{CrLogicOp}
 use Rattle.ppc_isa.specs.declared.instr.CrLogicOp.TheVariants.{Crand, Cror, Crxor, Crnand, Crnor, Creqv, Crandc, Crorc}
-use Rattle.ppc_parts.specs.Made.{RowMade}
-use Rattle.ppc_parts.specs.RecordingTerms.{field_term, unchanged_term}
+use Rattle.ppc_parts.specs.Prelude.{RowMade, field_term, unchanged_term}
 use Rattle.ppc_parts.specs.declared.given.Effect.{Effect}
 use Rattle.ppc_parts.specs.declared.given.GuestIn.{GuestIn}
 

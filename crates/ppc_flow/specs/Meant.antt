@@ -1,6 +1,6 @@
 -- What rows without a result of arithmetic or logic mean.
 use Rattle.std.specs.Prelude.{ℕ, Bool, true, cond, eqb}
-use Rattle.word_kit.specs.Bits.{with_bit}
+use Rattle.word_kit.specs.Prelude.{with_bit}
 use Rattle.ppc_isa.specs.CompareRows.{trap_holds}
 use Rattle.ppc_isa.specs.Effect.{GuestValues, Effect, unchanged}
 use Rattle.ppc_isa.specs.FieldRows.{cr_bit, cr_logic, field_moved, special_value, fields_put}

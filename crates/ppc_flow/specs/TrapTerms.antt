@@ -1,9 +1,7 @@
 -- The terms of traps.
 use Rattle.std.specs.Prelude.{ℕ, Bool, true, false}
-use Rattle.word_kit.specs.Bits.{bit_of}
-use Rattle.word_kit.specs.Operations.{Operations, FlagMade}
-use Rattle.ppc_parts.specs.Made.{RowMade}
-use Rattle.ppc_parts.specs.RecordingTerms.{unchanged_term}
+use Rattle.word_kit.specs.Prelude.{bit_of, Operations, FlagMade}
+use Rattle.ppc_parts.specs.Prelude.{RowMade, unchanged_term}
 use Rattle.ppc_parts.specs.declared.given.GuestIn.{GuestIn}
 
 module _ {W B H : Type 0} (ops : Operations W B H) where

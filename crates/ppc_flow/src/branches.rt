@@ -1,10 +1,10 @@
 //! Branches.
 
 ghost use Rattle.std.specs.Prelude.{◌≡◌, ℕ, Bool, false, ◌≤◌, ◌^◌, ◌-◌, IfOk, OnErr, IsTrue, cond, eqb, ◌<◌};
-ghost use Rattle.word_kit.specs.Algebra.{IsLater, GivesWord, GivesFlag};
-ghost use Rattle.word_kit.specs.Words.{sum_word, same};
+ghost use Rattle.word_kit.specs.Prelude.{GivesWord, GivesFlag, sum_word, same};
+ghost use Rattle.word_kit.specs.Algebra.{IsLater};
 ghost use Rattle.ppc_isa.specs.BranchRows.{bo_bit, count_allows, condition_allows, branch_on};
-ghost use Rattle.ppc_parts.specs.Meanings.{IsOwned, EffectOwned, values_of, effect_of, GivesEffect};
+ghost use Rattle.ppc_parts.specs.Prelude.{IsOwned, EffectOwned, values_of, effect_of, GivesEffect};
 ghost use Rattle.ppc_flow.specs.BranchTerms.{jump_term, fallen_term, counted_term, same_term, zero_term, count_term, condition_term, branch_term};
 ghost use Rattle.ppc_flow.specs.Meant.{jumps};
 

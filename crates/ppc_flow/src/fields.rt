@@ -1,9 +1,10 @@
 //! CR by bits and fields.
 
 ghost use Rattle.std.specs.Prelude.{◌≡◌, ◌≤◌, ℕ, Bool, IfOk, OnErr, IsTrue, ◌<◌};
-ghost use Rattle.word_kit.specs.Algebra.{IsLater, GivesFlag};
+ghost use Rattle.word_kit.specs.Prelude.{GivesFlag};
+ghost use Rattle.word_kit.specs.Algebra.{IsLater};
 ghost use Rattle.ppc_isa.specs.FieldRows.{cr_logic};
-ghost use Rattle.ppc_parts.specs.Meanings.{IsOwned, EffectOwned, values_of, effect_of, GivesEffect};
+ghost use Rattle.ppc_parts.specs.Prelude.{IsOwned, EffectOwned, values_of, effect_of, GivesEffect};
 ghost use Rattle.ppc_flow.specs.FieldTerms.{cr_logic_term, cr_logic_row_term, field_moved_term, cr_read_term};
 ghost use Rattle.ppc_flow.specs.Meant.{cr_logics, moves_field, reads_cr};
 

@@ -3,7 +3,7 @@
 ghost use Rattle.std.specs.Prelude.{◌≡◌, IfOk, OnErr, IsTrue};
 ghost use Rattle.word_kit.specs.Algebra.{IsLater};
 ghost use Rattle.ppc_isa.specs.FieldRows.{fields_mask};
-ghost use Rattle.ppc_parts.specs.Meanings.{IsOwned, values_of, GivesEffect};
+ghost use Rattle.ppc_parts.specs.Prelude.{IsOwned, values_of, GivesEffect};
 ghost use Rattle.ppc_flow.specs.FieldTerms.{fields_put_term};
 ghost use Rattle.ppc_flow.specs.Meant.{puts_fields};
 

@@ -3,7 +3,7 @@
 ghost use Rattle.std.specs.Prelude.{◌≡◌, ℕ, Bool, IfOk, OnErr, IsTrue};
 ghost use Rattle.word_kit.specs.Algebra.{IsLater};
 ghost use Rattle.ppc_isa.specs.FieldRows.{special_put};
-ghost use Rattle.ppc_parts.specs.Meanings.{IsOwned, EffectOwned, values_of, effect_of, GivesEffect};
+ghost use Rattle.ppc_parts.specs.Prelude.{IsOwned, EffectOwned, values_of, effect_of, GivesEffect};
 ghost use Rattle.ppc_flow.specs.FieldTerms.{special_value_term, special_read_term, link_or_count_term, xer_put_term, special_put_term};
 ghost use Rattle.ppc_flow.specs.Meant.{reads_special, puts_link_or_count};
 

@@ -1,10 +1,10 @@
 //! Traps.
 
 ghost use Rattle.std.specs.Prelude.{◌≡◌, ◌≤◌, ◌&&◌, IfOk, OnErr, IsTrue, eqb};
-ghost use Rattle.word_kit.specs.Algebra.{IsLater, GivesFlag};
-ghost use Rattle.word_kit.specs.Words.{is_less};
+ghost use Rattle.word_kit.specs.Prelude.{GivesFlag, is_less};
+ghost use Rattle.word_kit.specs.Algebra.{IsLater};
 ghost use Rattle.ppc_isa.specs.CompareRows.{trap_holds};
-ghost use Rattle.ppc_parts.specs.Meanings.{IsOwned, values_of, GivesEffect};
+ghost use Rattle.ppc_parts.specs.Prelude.{IsOwned, values_of, GivesEffect};
 ghost use Rattle.ppc_flow.specs.Meant.{traps};
 ghost use Rattle.ppc_flow.specs.TrapTerms.{chosen_less_term, chosen_equal_term, trap_test_term, trap_term};
 

@@ -1,6 +1,6 @@
 -- The rows compute their worked examples.
 use Rattle.std.proofs.Common.{refl}
-use Rattle.word_kit.specs.Bits.{of_bits, word_and, word_or, word_xor, mask}
+use Rattle.word_kit.specs.Prelude.{of_bits, word_and, word_or, word_xor, mask}
 use Rattle.ppc_isa.specs.ShiftRows.{leading_zeros}
 use Rattle.ppc_isa.specs.FieldRows.{fields_mask}
 use Rattle.ppc_isa.specs.Examples.{SumsCompute, LogicCompute, ShiftsCompute, RotatesCompute, ProductsCompute, ComparesCompute, FieldsCompute, AccessesCompute, BranchesCompute, TrapsCompute}

@@ -1,7 +1,6 @@
 -- Accesses: Power ISA Book I, 3.3.2 to 3.3.6. A number in memory has its highest byte first.
 use Rattle.std.specs.Prelude.{ℕ, ◌+◌, ◌-◌, ◌*◌, ◌%◌, ◌^◌}
-use Rattle.word_kit.specs.Words.{sign_extended}
-use Rattle.word_kit.specs.Bits.{byte_of, joined}
+use Rattle.word_kit.specs.Prelude.{sign_extended, byte_of, joined}
 use Rattle.ppc_isa.specs.Effect.{GuestValues, Effect, LoadAccess, StoreAccess, unchanged}
 
 -- the effective address

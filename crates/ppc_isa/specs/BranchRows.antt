@@ -1,7 +1,6 @@
 -- Branches: Power ISA Book I, 2.4. Targets, and the return address in LR, are the machine's.
 use Rattle.std.specs.Prelude.{ℕ, ◌-◌, ◌^◌, Bool, false, cond, ◌&&◌, ◌||◌, eqb}
-use Rattle.word_kit.specs.Words.{same, sum_word}
-use Rattle.word_kit.specs.Bits.{bit_of}
+use Rattle.word_kit.specs.Prelude.{same, sum_word, bit_of}
 use Rattle.ppc_isa.specs.Effect.{GuestValues, Effect, unchanged}
 use Rattle.ppc_isa.specs.FieldRows.{cr_bit}
 

@@ -1,7 +1,6 @@
 -- Compares and traps: Power ISA Book I, 3.3.10 and 3.3.11.
 use Rattle.std.specs.Prelude.{ℕ, Bool, true, false, ◌&&◌, ◌||◌, eqb}
-use Rattle.word_kit.specs.Words.{is_less}
-use Rattle.word_kit.specs.Bits.{bit_of}
+use Rattle.word_kit.specs.Prelude.{is_less, bit_of}
 
 -- the five bits of TO choose tests, from the left: less, greater, equal, and less and greater as unsigned numbers
 abbrev pub trap_holds : ℕ → ℕ → ℕ → Bool

@@ -1,7 +1,6 @@
 -- CR by fields and bits, and the special registers: Power ISA Book I, 2.5.1, 3.3.17 and 2.5.2.
 use Rattle.std.specs.Prelude.{ℕ, ◌+◌, ◌*◌, ◌/◌, Bool, cond, not, ◌&&◌, ◌||◌, eqb}
-use Rattle.word_kit.specs.Words.{same, complement}
-use Rattle.word_kit.specs.Bits.{bit_of, of_bits, word_and, word_or}
+use Rattle.word_kit.specs.Prelude.{same, complement, bit_of, of_bits, word_and, word_or}
 use Rattle.ppc_isa.specs.Instruction.{CrLogicOp, Crand, Cror, Crxor, Crnand, Crnor, Creqv, Crandc, Crorc}
 use Rattle.ppc_isa.specs.Effect.{GuestValues, Effect, unchanged}
 use Rattle.ppc_isa.specs.Recording.{place, with_field}

@@ -1,6 +1,6 @@
 -- Logic: Power ISA Book I, 3.3.13. Bit by bit; nand, nor and eqv are complements, andc and orc take one of rB.
 use Rattle.std.specs.Prelude.{ℕ}
-use Rattle.word_kit.specs.Bits.{word_and, word_or, word_xor}
+use Rattle.word_kit.specs.Prelude.{word_and, word_or, word_xor}
 use Rattle.ppc_isa.specs.Instruction.{LogicImmediateOp, Ori, Oris, Xori, Xoris, Andi, Andis}
 
 -- the immediate stands as the word that it is taken for, so the shifted forms are as the others

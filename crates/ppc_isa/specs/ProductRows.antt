@@ -1,7 +1,7 @@
 -- Products and quotients: Power ISA Book I, 3.3.9. Where Book I leaves a quotient undefined it is 0, which is this
 -- project's own.
 use Rattle.std.specs.Prelude.{ℕ, ◌-◌, ◌/◌, ◌^◌, cond, ◌&&◌, ◌||◌, eqb, int_div}
-use Rattle.word_kit.specs.Words.{signed, two_complement}
+use Rattle.word_kit.specs.Prelude.{signed, two_complement}
 
 -- the quotient toward 0, and 0 where the divisor is 0 or the quotient would be 2^31
 abbrev pub quotient_signed : ℕ → ℕ → ℕ

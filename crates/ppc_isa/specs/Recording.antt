@@ -1,7 +1,6 @@
 -- Fields of CR: what a compare puts there, and a form that records (Power ISA Book I, 2.3.1 and 3.3.10).
 use Rattle.std.specs.Prelude.{ℕ, ◌+◌, ◌-◌, ◌*◌, Bool, true, cond, eqb}
-use Rattle.word_kit.specs.Words.{is_less}
-use Rattle.word_kit.specs.Bits.{bit_of, with_bit}
+use Rattle.word_kit.specs.Prelude.{is_less, bit_of, with_bit}
 use Rattle.ppc_isa.specs.Effect.{GuestValues, Effect, unchanged}
 
 -- Bit i of a word is counted from the left in Book I: its place is 31 - i.

@@ -1,7 +1,6 @@
 -- Rotates with a mask: Power ISA Book I, 3.3.14.
 use Rattle.std.specs.Prelude.{ℕ}
-use Rattle.word_kit.specs.Words.{complement}
-use Rattle.word_kit.specs.Bits.{word_and, word_or, rotated, mask}
+use Rattle.word_kit.specs.Prelude.{complement, word_and, word_or, rotated, mask}
 use Rattle.ppc_isa.specs.Instruction.{RotateOp, Rlwinm, Rlwnm, Rlwimi}
 use Rattle.ppc_isa.specs.Effect.{GuestValues}
 

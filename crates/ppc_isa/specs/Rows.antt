@@ -1,9 +1,7 @@
 -- The rows of the instructions, over whole numbers: what each makes of the values that it reads.
 -- Meanings are those of Power ISA Book I, in its sections' terms. Words are below 2^32.
 use Rattle.std.specs.Prelude.{ℕ, ◌%◌, ◌^◌, Bool, true, false}
-use Rattle.word_kit.specs.Words.{complement}
-use Rattle.word_kit.specs.Bits.{with_bit, word_and, word_or, word_xor}
-use Rattle.word_kit.specs.Products.{product_low, product_high}
+use Rattle.word_kit.specs.Prelude.{complement, with_bit, word_and, word_or, word_xor, product_low, product_high}
 use Rattle.ppc_isa.specs.Instruction.{Instr, Immediate, LogicImmediate, Load, Store, LoadUpdate, StoreUpdate, Multiple, TrapImmediate, CompareImmediate, Rotate, Branch, BranchConditional, SystemCall, Arithmetic, ArithmeticUnary, Logic, ShiftImmediate, LogicUnary, Compare, Trap, MoveFromCr, MoveToCr, MoveFromSpr, MoveToSpr, Sync, LoadIndexed, StoreIndexed, LoadIndexedUpdate, StoreIndexedUpdate, MoveCrField, CrLogic, Isync, BranchRegister, ImmediateOp, Addi, Addis, Addic, AddicRecord, Subfic, Mulli, LoadOp, Lwz, Lbz, Lhz, Lha, StoreOp, Stw, Stb, Sth, LoadUpdateOp, Lwzu, Lbzu, Lhzu, Lhau, StoreUpdateOp, Stwu, Stbu, Sthu, Lmw, Stmw, CompareImmediateOp, Cmpi, Cmpli, ArithmeticOp, Add, Addc, Adde, Subf, Subfc, Subfe, Mullw, Mulhw, Mulhwu, Divw, Divwu, ArithmeticUnaryOp, Addze, Addme, Subfze, Subfme, Neg, LogicOp, And, Or, Xor, Nand, Nor, Eqv, Andc, Orc, Slw, Srw, Sraw, LogicUnaryOp, Cntlzw, Extsb, Extsh, CompareOp, Cmp, Cmpl, LoadIndexedOp, Lwzx, Lbzx, Lhzx, Lhax, Lwbrx, Lhbrx, StoreIndexedOp, Stwx, Stbx, Sthx, Stwbrx, Sthbrx, LoadIndexedUpdateOp, Lwzux, Lbzux, Lhzux, Lhaux, StoreIndexedUpdateOp, Stwux, Stbux, Sthux}
 use Rattle.ppc_isa.specs.Locations.{logic_immediate_records}
 use Rattle.ppc_isa.specs.Effect.{GuestValues, Effect, LoadAccess, StoreAccess, unchanged}

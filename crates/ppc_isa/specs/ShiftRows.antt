@@ -1,7 +1,6 @@
 -- Shifts and counts of zeros: Power ISA Book I, 3.3.14 and 3.3.13. An amount of six bits: from 32 on all bits have left.
 use Rattle.std.specs.Prelude.{ℕ, zero, suc, ◌-◌, ◌*◌, ◌/◌, ◌%◌, ◌^◌, Bool, cond, not, ◌&&◌, eqb}
-use Rattle.word_kit.specs.Words.{complement, is_negative}
-use Rattle.word_kit.specs.Bits.{bit_of}
+use Rattle.word_kit.specs.Prelude.{complement, is_negative, bit_of}
 use Rattle.ppc_isa.specs.Effect.{GuestValues, Effect}
 use Rattle.ppc_isa.specs.Recording.{with_ca, gives_a}
 

@@ -1,6 +1,6 @@
 -- Sums and differences: Power ISA Book I, 3.3.9. A difference adds the complement.
 use Rattle.std.specs.Prelude.{ℕ, ◌+◌, ◌-◌, ◌%◌, ◌^◌, Bool, cond, eqb}
-use Rattle.word_kit.specs.Words.{sum_word, sum_carries}
+use Rattle.word_kit.specs.Prelude.{sum_word, sum_carries}
 use Rattle.ppc_isa.specs.Effect.{GuestValues, Effect}
 use Rattle.ppc_isa.specs.Recording.{with_ca, gives_d}
 

@@ -1,8 +1,7 @@
 -- The terms of accesses.
 use Rattle.std.specs.Prelude.{ℕ, false}
-use Rattle.word_kit.specs.Operations.{Operations}
-use Rattle.ppc_parts.specs.Made.{RowMade}
-use Rattle.ppc_parts.specs.RecordingTerms.{unchanged_term}
+use Rattle.word_kit.specs.Prelude.{Operations}
+use Rattle.ppc_parts.specs.Prelude.{RowMade, unchanged_term}
 use Rattle.ppc_parts.specs.declared.given.Access.TheVariants.{Load, Store}
 use Rattle.ppc_parts.specs.declared.given.GuestIn.{GuestIn}
 

@@ -1,6 +1,6 @@
 -- The terms of loads.
 use Rattle.std.specs.Prelude.{ℕ}
-use Rattle.word_kit.specs.Operations.{Operations}
+use Rattle.word_kit.specs.Prelude.{Operations}
 use Rattle.ppc_isa.specs.declared.instr.LoadIndexedOp.{LoadIndexedOp}
 use Rattle.ppc_isa.specs.declared.instr.LoadIndexedOp.TheVariants.{Lwzx, Lbzx, Lhzx, Lhax, Lwbrx, Lhbrx}
 use Rattle.ppc_isa.specs.declared.instr.LoadIndexedUpdateOp.{LoadIndexedUpdateOp}
@@ -9,8 +9,7 @@ use Rattle.ppc_isa.specs.declared.instr.LoadOp.{LoadOp}
 use Rattle.ppc_isa.specs.declared.instr.LoadOp.TheVariants.{Lwz, Lbz, Lhz, Lha}
 use Rattle.ppc_isa.specs.declared.instr.LoadUpdateOp.{LoadUpdateOp}
 use Rattle.ppc_isa.specs.declared.instr.LoadUpdateOp.TheVariants.{Lwzu, Lbzu, Lhzu, Lhau}
-use Rattle.ppc_parts.specs.Made.{RowMade}
-use Rattle.ppc_parts.specs.OperandTerms.{extended_term, base_term}
+use Rattle.ppc_parts.specs.Prelude.{RowMade, extended_term, base_term}
 use Rattle.ppc_parts.specs.declared.given.GuestIn.{GuestIn}
 use Rattle.ppc_memory.specs.AccessTerms.{reversed_term, half_reversed_term, load_term, update_term}
 

@@ -1,6 +1,6 @@
 -- The terms of stores, and of accesses of many registers.
 use Rattle.std.specs.Prelude.{ℕ, false}
-use Rattle.word_kit.specs.Operations.{Operations}
+use Rattle.word_kit.specs.Prelude.{Operations}
 use Rattle.ppc_isa.specs.AccessRows.{multiple_width}
 use Rattle.ppc_isa.specs.declared.instr.MultipleOp.{MultipleOp}
 use Rattle.ppc_isa.specs.declared.instr.MultipleOp.TheVariants.{Lmw, Stmw}
@@ -12,9 +12,7 @@ use Rattle.ppc_isa.specs.declared.instr.StoreOp.{StoreOp}
 use Rattle.ppc_isa.specs.declared.instr.StoreOp.TheVariants.{Stw, Stb, Sth}
 use Rattle.ppc_isa.specs.declared.instr.StoreUpdateOp.{StoreUpdateOp}
 use Rattle.ppc_isa.specs.declared.instr.StoreUpdateOp.TheVariants.{Stwu, Stbu, Sthu}
-use Rattle.ppc_parts.specs.Made.{RowMade}
-use Rattle.ppc_parts.specs.OperandTerms.{base_term}
-use Rattle.ppc_parts.specs.RecordingTerms.{unchanged_term}
+use Rattle.ppc_parts.specs.Prelude.{RowMade, base_term, unchanged_term}
 use Rattle.ppc_parts.specs.declared.given.Access.{Access}
 use Rattle.ppc_parts.specs.declared.given.Access.TheVariants.{Load, Store}
 use Rattle.ppc_parts.specs.declared.given.GuestIn.{GuestIn}

@@ -3,7 +3,7 @@
 ghost use Rattle.std.specs.Prelude.{◌≡◌, ◌≤◌, ℕ, Bool, ◌^◌, ◌%◌, IfOk, OnErr, IsTrue};
 ghost use Rattle.word_kit.specs.Algebra.{IsLater};
 ghost use Rattle.ppc_isa.specs.AccessRows.{word_reversed, half_reversed, loads, stores, updates};
-ghost use Rattle.ppc_parts.specs.Meanings.{IsOwned, values_of, GivesEffect};
+ghost use Rattle.ppc_parts.specs.Prelude.{IsOwned, values_of, GivesEffect};
 ghost use Rattle.ppc_memory.specs.AccessTerms.{reversed_term, half_reversed_term, low_byte_term, low_half_term, load_term, store_term, update_term};
 
 use ppc_parts::{Access, Effect, GuestIn, unchanged};

@@ -4,7 +4,7 @@ ghost use Rattle.std.specs.Prelude.{◌≡◌, ◌≤◌, IfOk, OnErr, IsTrue};
 ghost use Rattle.word_kit.specs.Algebra.{IsLater};
 ghost use Rattle.ppc_isa.specs.AccessRows.{half_extended, loads, updates};
 ghost use Rattle.ppc_isa.specs.Rows.{load_row, load_update_row, load_indexed_row, load_indexed_update_row};
-ghost use Rattle.ppc_parts.specs.Meanings.{IsOwned, values_of, GivesEffect};
+ghost use Rattle.ppc_parts.specs.Prelude.{IsOwned, values_of, GivesEffect};
 ghost use Rattle.ppc_memory.specs.AccessTerms.{update_term};
 ghost use Rattle.ppc_memory.specs.LoadTerms.{load_extended_term, load_row_term, load_update_row_term, load_indexed_row_term, load_indexed_update_row_term};
 

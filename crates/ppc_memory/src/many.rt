@@ -2,7 +2,7 @@
 
 ghost use Rattle.std.specs.Prelude.{◌≡◌, ◌≤◌, ◌<◌, IfOk, OnErr, IsTrue};
 ghost use Rattle.word_kit.specs.Algebra.{IsLater};
-ghost use Rattle.ppc_parts.specs.Meanings.{IsOwned, kind_of, values_of, GivesEffect};
+ghost use Rattle.ppc_parts.specs.Prelude.{IsOwned, kind_of, values_of, GivesEffect};
 ghost use Rattle.ppc_memory.specs.Meant.{reaches_many, multiple};
 ghost use Rattle.ppc_memory.specs.StoreTerms.{many_term, multiple_term};
 

@@ -3,7 +3,7 @@
 ghost use Rattle.std.specs.Prelude.{◌≡◌, IfOk, OnErr, IsTrue};
 ghost use Rattle.word_kit.specs.Algebra.{IsLater};
 ghost use Rattle.ppc_isa.specs.Rows.{store_row, store_update_row, store_indexed_row, store_indexed_update_row};
-ghost use Rattle.ppc_parts.specs.Meanings.{IsOwned, values_of, GivesEffect};
+ghost use Rattle.ppc_parts.specs.Prelude.{IsOwned, values_of, GivesEffect};
 ghost use Rattle.ppc_memory.specs.StoreTerms.{store_row_term, store_update_row_term, store_indexed_row_term, store_indexed_update_row_term};
 
 use crate::accesses::{half_reversed, low_byte, low_half, reversed, store, store_update};

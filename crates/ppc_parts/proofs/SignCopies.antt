@@ -1,7 +1,7 @@
 -- Shifts to the left and back, as extensions of a sign.
 use Rattle.std.proofs.Common.{◌≡◌, ℕ, ◌*◌, ◌%◌, ◌^◌, arith}
 use Rattle.std.proofs.lemmas.Bool.Decides.{nat_tests}
-use Rattle.word_kit.specs.Bits.{shifted_left, shifted_arith}
+use Rattle.word_kit.specs.Prelude.{shifted_left, shifted_arith}
 use Rattle.ppc_isa.specs.AccessRows.{half_extended, byte_extended}
 
 up_24 : (x : ℕ) → shifted_left x 24 ≡ x % 2 ^ 8 * 2 ^ 24

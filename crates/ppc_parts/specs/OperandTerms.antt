@@ -1,6 +1,6 @@
 -- The terms of operands that several rows make.
 use Rattle.std.specs.Prelude.{ℕ, cond, eqb}
-use Rattle.word_kit.specs.Operations.{Operations, WordMade}
+use Rattle.word_kit.specs.Prelude.{Operations, WordMade}
 use Rattle.ppc_parts.specs.declared.given.GuestIn.{GuestIn}
 
 module _ {W B H : Type 0} (ops : Operations W B H) where

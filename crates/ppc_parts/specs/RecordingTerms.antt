@@ -1,6 +1,6 @@
 -- The terms of what rows share: fields of CR, recording forms, and effects that change little.
 use Rattle.std.specs.Prelude.{ℕ, ◌+◌, ◌-◌, ◌*◌, Bool, true, false}
-use Rattle.word_kit.specs.Operations.{Operations, WordMade}
+use Rattle.word_kit.specs.Prelude.{Operations, WordMade}
 use Rattle.ppc_parts.specs.Made.{RowMade}
 use Rattle.ppc_parts.specs.declared.given.Access.TheVariants.{None}
 use Rattle.ppc_parts.specs.declared.given.Effect.{Effect}

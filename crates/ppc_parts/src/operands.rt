@@ -1,7 +1,8 @@
 //! Operands that several rows make.
 
 ghost use Rattle.std.specs.Prelude.{◌≡◌, ◌≤◌, ℕ, Bool, IfOk, OnOk, OnErr, IsTrue};
-ghost use Rattle.word_kit.specs.Algebra.{IsLater, GivesWord};
+ghost use Rattle.word_kit.specs.Prelude.{GivesWord};
+ghost use Rattle.word_kit.specs.Algebra.{IsLater};
 ghost use Rattle.ppc_isa.specs.AccessRows.{byte_extended, half_extended};
 ghost use Rattle.ppc_isa.specs.SumRows.{base};
 ghost use Rattle.ppc_parts.specs.Meanings.{IsOwned, values_of};

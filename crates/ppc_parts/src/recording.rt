@@ -3,7 +3,8 @@
 ghost use Rattle.std.specs.Prelude.{◌≡◌, ◌<◌, ◌≤◌, ℕ, Bool, IfOk, OnOk, OnErr, IsTrue};
 ghost use Rattle.ppc_isa.specs.Effect.{unchanged};
 ghost use Rattle.ppc_isa.specs.Recording.{with_field, compared, recorded, gives_d, gives_a};
-ghost use Rattle.word_kit.specs.Algebra.{IsLater, GivesWord};
+ghost use Rattle.word_kit.specs.Prelude.{GivesWord};
+ghost use Rattle.word_kit.specs.Algebra.{IsLater};
 ghost use Rattle.ppc_parts.specs.Meanings.{IsOwned, values_of, EffectOwned, effect_of, GivesEffect};
 ghost use Rattle.ppc_parts.specs.RecordingTerms.{field_term, compared_term, recorded_term, unchanged_term, gives_d_term, gives_a_term};
 

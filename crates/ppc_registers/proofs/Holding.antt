@@ -3,8 +3,7 @@ use Rattle.std.proofs.Common.{◌≡◌, ◌≢◌, ℕ, ◌+◌, ◌-◌, ◌*�
 use Rattle.std.proofs.Math.Nat.{zero-div}
 use Rattle.std.proofs.lemmas.Bool.{cases_eq, cases_lt}
 use Rattle.std.proofs.lemmas.Bool.Decides.{nat_tests}
-use Rattle.machines.specs.Memory.{update}
-use Rattle.machines.specs.Guest.{cr_word, xer_word, put_cr, put_xer}
+use Rattle.machines.specs.Prelude.{update, cr_word, xer_word, put_cr, put_xer}
 use Rattle.ppc_registers.specs.declared.registers.Registers.TheInside.{Inside}
 use Rattle.ppc_registers.specs.Held.{location, listed_from, values_of_all, locs_of, HasNoMore}
 

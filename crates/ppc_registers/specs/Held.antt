@@ -1,8 +1,8 @@
 -- The guest's registers as they are kept, and the values of the locations that they hold. This project's own.
 use Rattle.std.specs.Prelude.{◌≡◌, ℕ, zero, suc, ◌+◌, ◌-◌, ◌/◌, ◌%◌, ◌^◌, Bool, cond, eqb, ltb, List, [], ◌∷◌, slice_index}
-use Rattle.ppc_isa.specs.Effect.{GuestValues}
+use Rattle.machines.specs.Prelude.{GuestValues}
 use Rattle.ppc_parts.specs.declared.given.GuestIn.{GuestIn}
-use Rattle.ppc_parts.specs.Meanings.{values_of}
+use Rattle.ppc_parts.specs.Prelude.{values_of}
 use Rattle.ppc_registers.specs.declared.registers.Registers.TheInside.{Inside}
 
 -- the value of a location: GPR x is x, LR 32, CTR 33, CR's fields from the left 34 to 41, and CA, SO, OV, XC 42 to 45

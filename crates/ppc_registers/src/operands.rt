@@ -1,8 +1,7 @@
 //! What an instruction reads of the registers.
 
 ghost use Rattle.std.specs.Prelude.{◌≡◌, ◌<◌, ◌^◌, ℕ};
-ghost use Rattle.ppc_isa.specs.Legal.{IsLegal};
-ghost use Rattle.machines.specs.Guest.{immediate_word, logic_word, compare_word, rotate_register, value_a, value_b, value_s, guest_values};
+ghost use Rattle.machines.specs.Prelude.{IsLegal, immediate_word, logic_word, compare_word, rotate_register, value_a, value_b, value_s, guest_values};
 ghost use Rattle.ppc_registers.specs.Held.{numbers, locs_of};
 
 use crate::Registers;

@@ -1,8 +1,7 @@
 //! The registers.
 
 ghost use Rattle.std.specs.Prelude.{◌≡◌, ◌<◌, ◌%◌, ◌/◌, ℕ, cond, slice_index};
-ghost use Rattle.machines.specs.Memory.{update};
-ghost use Rattle.machines.specs.Guest.{cr_word, xer_word, put_cr, put_xer, stack_start, without_so, with_so};
+ghost use Rattle.machines.specs.Prelude.{update, cr_word, xer_word, put_cr, put_xer, stack_start, without_so, with_so};
 ghost use Rattle.ppc_registers.specs.Held.{locs_of};
 
 use std::marker::Model;

@@ -1,19 +1,9 @@
 -- Calls that the guest makes, and how it goes on behind them.
 use Rattle.std.proofs.Common.{◌≡◌, ℕ, true, false, List, [], Ok, Err, refl, sym, ◌∙◌, ap, subst}
-use Rattle.space.specs.declared.call.Call.{Call}
-use Rattle.space.specs.declared.call.CallKind.{CallKind}
-use Rattle.space.specs.declared.call.End.TheVariants.{Outside}
-use Rattle.space.specs.declared.call.Event.TheVariants.{Asked, Ended}
-use Rattle.space.specs.declared.program.Program.{Program}
+use Rattle.machines.specs.Prelude.{Call, CallKind, Outside, Asked, Ended, Program, ListedCall, AnswerValue, Given, Gives, Fails, given, put_block, Guest, after_guest_call}
 use Rattle.space.specs.Memory.{Memory}
-use Rattle.space.specs.Reports.{ListedCall, AnswerValue, Given, Gives, Fails, given}
-use Rattle.machines.specs.Memory.{put_block}
-use Rattle.machines.specs.Guest.{Guest, after_guest_call}
-use Rattle.ppc_step.specs.declared.state.State.{State}
+use Rattle.ppc_step.specs.Prelude.{State, IsState, asks_for, IsAsking, Leads}
 use Rattle.machine_calls.specs.Calls.{listed_call, is_buffer, IsGiven}
-use Rattle.ppc_step.specs.Shown.{IsState}
-use Rattle.ppc_step.specs.Calls.{asks_for, IsAsking}
-use Rattle.ppc_step.specs.Steps.{Leads}
 use Rattle.ppc_step.proofs.States.{with_memory}
 
 module _ (p : Program) (s : State) (g : Guest) (k : CallKind) (fd at count : ℕ) (st : IsState p s g)

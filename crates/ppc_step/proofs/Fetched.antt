@@ -4,11 +4,8 @@ use Rattle.std.specs.Prelude.{slice_get, option_and_then}
 use Rattle.std.proofs.lemmas.Bool.Decides.{nat_tests}
 use Rattle.std.proofs.lemmas.List.{get_or-drop}
 use Rattle.byteorder.specs.Endian.{big_number}
-use Rattle.space.specs.declared.program.Segment.{Segment}
-use Rattle.space.specs.declared.program.Program.{Program}
-use Rattle.space.specs.Memory.{Memory, word_in, has_word, code_word as kept_word}
-use Rattle.machines.specs.Memory.{code_in, code_of}
-use Rattle.machines.specs.Guest.{is_code_word, word_at}
+use Rattle.machines.specs.Prelude.{Segment, Program, word_in, has_word, code_word as kept_word, code_in, code_of, is_code_word, word_at}
+use Rattle.space.specs.Memory.{Memory}
 use Rattle.access.specs.Kept.{Keeps}
 
 none_is : (a : ℕ) → is_code_word (code_in None) a ≡ false

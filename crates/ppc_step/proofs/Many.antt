@@ -4,11 +4,8 @@ use Rattle.std.specs.Prelude.{if◌then◌else◌}
 use Rattle.std.proofs.lemmas.Bool.Decides.{nat_tests}
 use Rattle.std.proofs.lemmas.Bool.{cases_eq, cases_lt}
 use Rattle.access.proofs.Bytes.{each_at, each_of}
-use Rattle.space.specs.declared.program.Program.{Program}
-use Rattle.machines.specs.Memory.{rights_of, update, load_big, store_big, each_byte}
-use Rattle.machines.specs.Guest.{Guest, put_loaded, store_registers}
-use Rattle.ppc_step.specs.declared.state.State.{State}
-use Rattle.ppc_step.specs.Shown.{IsState}
+use Rattle.machines.specs.Prelude.{Program, rights_of, update, load_big, store_big, each_byte, Guest, put_loaded, store_registers}
+use Rattle.ppc_step.specs.Prelude.{State, IsState}
 
 -- an address modulo 2^32 is the same address
 pub load_wraps : (n a b : ℕ) (f : ℕ → ℕ) → a % 2 ^ 32 ≡ b % 2 ^ 32 → load_big n a f ≡ load_big n b f

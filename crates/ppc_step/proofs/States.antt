@@ -1,20 +1,10 @@
 -- States whose parts change.
 use Rattle.std.proofs.Common.{◌≡◌, ℕ, List, ◌+◌, ◌%◌, ◌^◌, Bool, true, false, cond, refl, sym, ◌∙◌, ap, subst}
-use Rattle.space.specs.declared.program.Program.{Program}
-use Rattle.machines.specs.Guest.{Guest, at_next, load_outcome, store_outcome, behind, branches, linked, branch_target, guest_acts}
+use Rattle.machines.specs.Prelude.{Program, Guest, at_next, load_outcome, store_outcome, behind, branches, linked, branch_target, guest_acts, Outside, Event, Went, Ended, Effect, Instr, Goes, update, each_byte, rights_of}
 use Rattle.access.specs.Kept.{Keeps}
 use Rattle.space.specs.Memory.{Memory}
-use Rattle.space.specs.declared.call.End.TheVariants.{Outside}
-use Rattle.space.specs.declared.call.Event.{Event}
-use Rattle.space.specs.declared.call.Event.TheVariants.{Went, Ended}
-use Rattle.ppc_isa.specs.Effect.{Effect}
-use Rattle.ppc_isa.specs.declared.instr.Instr.{Instr}
-use Rattle.runs.specs.Machine.{Goes}
-use Rattle.machines.specs.Memory.{update, each_byte, rights_of}
 use Rattle.ppc_registers.specs.Held.{locs_of}
-use Rattle.ppc_step.specs.declared.state.State.{State}
-use Rattle.ppc_step.specs.Shown.{IsState}
-use Rattle.ppc_step.specs.Steps.{Leads}
+use Rattle.ppc_step.specs.Prelude.{State, IsState, Leads}
 
 -- other registers
 pub with_registers : (p : Program) (s : State) (g : Guest) (r : List ℕ) (locs : ℕ → ℕ) → IsState p s g → locs_of r ≡ locs

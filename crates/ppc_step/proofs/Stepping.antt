@@ -1,24 +1,11 @@
 -- A step of the state, and of the machine.
 use Rattle.std.proofs.Common.{◌≡◌, ℕ, true, Option, Some, None, refl, sym, ◌∙◌, ap, subst}
-use Rattle.space.specs.declared.call.Event.{Event}
-use Rattle.space.specs.declared.call.Event.TheVariants.{Went, Asked, Ended}
-use Rattle.space.specs.declared.call.End.TheVariants.{Illegal}
-use Rattle.space.specs.declared.program.Program.{Program}
-use Rattle.space.specs.Memory.{code_word as kept_word}
-use Rattle.runs.specs.Machine.{Outcome}
-use Rattle.ppc_isa.specs.declared.instr.Instr.{Instr}
-use Rattle.ppc_isa.specs.Legal.{IsWordOf}
-use Rattle.machines.specs.Memory.{rights_of, code_of}
-use Rattle.machines.specs.Readings.{ReadsWords}
-use Rattle.machines.specs.Guest.{Guest, is_code_word, word_at, effect_of, guest_acts, guest_machine}
-use Rattle.ppc_step.specs.declared.state.State.{State}
+use Rattle.machines.specs.Prelude.{Event, Went, Asked, Ended, Illegal, Program, code_word as kept_word, Outcome, Instr, IsWordOf, rights_of, code_of, ReadsWords, Guest, is_code_word, word_at, effect_of, guest_acts, guest_machine}
+use Rattle.ppc_step.specs.Prelude.{State, IsState, IsAsking, IsDone, Leads, Shows, IsTold}
 use Rattle.machine_calls.specs.declared.phase.Phase.{Phase}
 use Rattle.machine_calls.specs.declared.phase.Phase.TheVariants.{Going, Waiting, Over}
 use Rattle.machine_calls.specs.Phases.{IsReady, Tells, phase_of, stepped}
 use Rattle.machine_calls.proofs.Phases.{step_shown}
-use Rattle.ppc_step.specs.Shown.{IsState}
-use Rattle.ppc_step.specs.Calls.{IsAsking}
-use Rattle.ppc_step.specs.Steps.{IsDone, Leads, Shows, IsTold}
 use Rattle.ppc_step.proofs.Fetched.{word}
 
 module _ (p : Program) (words : ℕ → Option Instr) (reads : ReadsWords words) (s : State) (g : Guest) (event : Event) (new : State) (is : IsState p s g) where

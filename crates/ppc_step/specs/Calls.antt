@@ -1,12 +1,6 @@
 -- A call of the guest that waits for its answer.
 use Rattle.std.specs.Prelude.{◌≡◌, cond}
-use Rattle.space.specs.declared.call.Call.{Call}
-use Rattle.space.specs.declared.call.CallKind.{CallKind}
-use Rattle.space.specs.declared.call.End.TheVariants.{Outside}
-use Rattle.space.specs.declared.program.Program.{Program}
-use Rattle.space.specs.Reports.{ListedCall, AnswerValue, given}
-use Rattle.runs.specs.Machine.{Outcome, Ends}
-use Rattle.machines.specs.Guest.{Guest, after_guest_call, guest_asks}
+use Rattle.machines.specs.Prelude.{Call, CallKind, Outside, Program, ListedCall, AnswerValue, given, Outcome, Ends, Guest, after_guest_call, guest_asks}
 use Rattle.machine_calls.specs.Calls.{listed_as, listed_call, is_buffer}
 use Rattle.ppc_step.specs.declared.state.State.{State}
 use Rattle.ppc_step.specs.Shown.{IsState}

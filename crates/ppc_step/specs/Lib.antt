@@ -1,3 +1,4 @@
 pub mod Shown
 pub mod Calls
 pub mod Steps
+pub mod Prelude

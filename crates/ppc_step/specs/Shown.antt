@@ -1,13 +1,8 @@
 -- The state of the guest that the machine's state shows, and an effect in numbers. This project's own.
 use Rattle.std.specs.Prelude.{◌≡◌, ℕ, Bool, true, false, Option, Some, None}
-use Rattle.space.specs.declared.program.Program.{Program}
-use Rattle.ppc_isa.specs.declared.instr.Instr.{Instr}
-use Rattle.ppc_isa.specs.declared.instr.Instr.TheVariants.{Load, LoadUpdate, LoadIndexed, LoadIndexedUpdate, Store, StoreUpdate, StoreIndexed, StoreIndexedUpdate}
-use Rattle.ppc_isa.specs.Effect.{Effect}
+use Rattle.machines.specs.Prelude.{Program, Instr, Load, LoadUpdate, LoadIndexed, LoadIndexedUpdate, Store, StoreUpdate, StoreIndexed, StoreIndexedUpdate, Effect, each_byte, rights_of, Guest}
 use Rattle.ppc_parts.specs.declared.given.Effect.{Effect as Made}
-use Rattle.ppc_parts.specs.Meanings.{effect_of}
-use Rattle.machines.specs.Memory.{each_byte, rights_of}
-use Rattle.machines.specs.Guest.{Guest}
+use Rattle.ppc_parts.specs.Prelude.{effect_of}
 use Rattle.access.specs.Kept.{Keeps}
 use Rattle.ppc_registers.specs.Held.{locs_of}
 use Rattle.ppc_step.specs.declared.state.State.{State}

@@ -1,10 +1,6 @@
 -- What a machine shows of the run of a program, and what an event tells of a step.
 use Rattle.std.specs.Prelude.{◌≡◌}
-use Rattle.space.specs.declared.call.Event.{Event}
-use Rattle.space.specs.declared.call.Event.TheVariants.{Went, Asked, Ended}
-use Rattle.space.specs.declared.program.Program.{Program}
-use Rattle.runs.specs.Machine.{Outcome}
-use Rattle.machines.specs.Guest.{Guest}
+use Rattle.machines.specs.Prelude.{Event, Went, Asked, Ended, Program, Outcome, Guest}
 use Rattle.machine_calls.specs.declared.phase.Phase.{Phase}
 use Rattle.machine_calls.specs.declared.phase.Phase.TheVariants.{Going, Waiting, Over}
 use Rattle.machine_calls.specs.Calls.{HasBuffer}

@@ -1,10 +1,7 @@
 //! Loads and store_outcome.
 
 ghost use Rattle.std.specs.Prelude.{◌≡◌, ◌<◌, ◌-◌, ◌*◌, true, false};
-ghost use Rattle.space.specs.declared.program.Program.{Program};
-ghost use Rattle.ppc_isa.specs.Legal.{IsLegal};
-ghost use Rattle.machines.specs.Memory.{update, each_byte, load_big as big_number, store_big as big_stored, rights_of};
-ghost use Rattle.machines.specs.Guest.{Guest, effect_of, load_outcome, store_outcome, put_loaded, store_registers};
+ghost use Rattle.machines.specs.Prelude.{Program, IsLegal, update, each_byte, load_big as big_number, store_big as big_stored, rights_of, Guest, effect_of, load_outcome, store_outcome, put_loaded, store_registers};
 ghost use Rattle.ppc_step.specs.Shown.{IsState, is_load, is_store};
 ghost use Rattle.ppc_step.specs.Steps.{Leads, IsDone};
 

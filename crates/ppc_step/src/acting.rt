@@ -1,12 +1,7 @@
 //! One instruction.
 
 ghost use Rattle.std.specs.Prelude.{◌≡◌, ℕ, Option};
-ghost use Rattle.space.specs.declared.program.Program.{Program};
-ghost use Rattle.ppc_isa.specs.declared.instr.Instr.{Instr as Instruction};
-ghost use Rattle.ppc_isa.specs.Legal.{IsLegal};
-ghost use Rattle.machines.specs.Memory.{rights_of};
-ghost use Rattle.machines.specs.Readings.{ReadsWords};
-ghost use Rattle.machines.specs.Guest.{Guest, effect_of, guest_acts, guest_machine};
+ghost use Rattle.machines.specs.Prelude.{Program, Instr as Instruction, IsLegal, rights_of, ReadsWords, Guest, effect_of, guest_acts, guest_machine};
 ghost use Rattle.ppc_step.specs.Shown.{IsState};
 ghost use Rattle.ppc_step.specs.Steps.{IsDone, Leads};
 

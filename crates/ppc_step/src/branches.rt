@@ -1,12 +1,7 @@
 //! Branches and traps.
 
 ghost use Rattle.std.specs.Prelude.{◌≡◌, ◌<◌, ◌+◌, ◌%◌, ◌^◌, ℕ, true, false, cond};
-ghost use Rattle.space.specs.declared.call.End.TheVariants.{Trap as Trapped};
-ghost use Rattle.space.specs.declared.program.Program.{Program};
-ghost use Rattle.runs.specs.Machine.{Goes, Ends};
-ghost use Rattle.ppc_isa.specs.Legal.{IsLegal};
-ghost use Rattle.machines.specs.Memory.{update};
-ghost use Rattle.machines.specs.Guest.{Guest, effect_of, at_next, branches, linked, branch_target, register_target};
+ghost use Rattle.machines.specs.Prelude.{Trap as Trapped, Program, Goes, Ends, IsLegal, update, Guest, effect_of, at_next, branches, linked, branch_target, register_target};
 ghost use Rattle.ppc_registers.specs.Held.{locs_of};
 ghost use Rattle.ppc_step.specs.Shown.{IsState, is_load};
 ghost use Rattle.ppc_step.specs.Steps.{Leads, IsDone};

@@ -1,10 +1,7 @@
 //! System calls and their answers.
 
 ghost use Rattle.std.specs.Prelude.{◌≡◌, []};
-ghost use Rattle.space.specs.declared.program.Program.{Program};
-ghost use Rattle.space.specs.Reports.{ListedCall, AnswerValue, Gives, Fails, answer_value};
-ghost use Rattle.machines.specs.Memory.{rights_of};
-ghost use Rattle.machines.specs.Guest.{Guest, after_guest_call, guest_system_call};
+ghost use Rattle.machines.specs.Prelude.{Program, ListedCall, AnswerValue, Gives, Fails, answer_value, rights_of, Guest, after_guest_call, guest_system_call};
 ghost use Rattle.machine_calls.specs.Calls.{HasBuffer};
 ghost use Rattle.ppc_step.specs.Shown.{IsState};
 ghost use Rattle.ppc_step.specs.Calls.{IsAsking, asks_for};

@@ -1,11 +1,7 @@
 //! The effect of an instruction in a state.
 
 ghost use Rattle.std.specs.Prelude.{◌≡◌, true, false};
-ghost use Rattle.space.specs.declared.program.Program.{Program};
-ghost use Rattle.ppc_isa.specs.Legal.{IsLegal};
-ghost use Rattle.ppc_isa.specs.Effect.{GuestValues};
-ghost use Rattle.ppc_isa.specs.Rows.{guest_row};
-ghost use Rattle.machines.specs.Guest.{Guest, effect_of};
+ghost use Rattle.machines.specs.Prelude.{Program, IsLegal, GuestValues, guest_row, Guest, effect_of};
 ghost use Rattle.ppc_registers.specs.Held.{numbers};
 ghost use Rattle.ppc_step.specs.Shown.{IsState, IsLoaded, told, is_load};
 

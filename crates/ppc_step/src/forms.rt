@@ -1,7 +1,7 @@
 //! What an instruction puts beside its result: CR where it records, XER where it carries.
 
 ghost use Rattle.std.specs.Prelude.{◌≡◌, false};
-ghost use Rattle.ppc_isa.specs.Locations.{immediate_carries, immediate_records, logic_immediate_records, carry_out, unary_carry, logic_carries};
+ghost use Rattle.machines.specs.Prelude.{immediate_carries, immediate_records, logic_immediate_records, carry_out, unary_carry, logic_carries};
 
 use ppc_isa::{
     ArithmeticOp, ArithmeticUnaryOp, ImmediateOp, LogicImmediateOp, LogicOp, carry_out,

@@ -1,15 +1,9 @@
 //! The machine.
 
 ghost use Rattle.std.specs.Prelude.{◌≡◌, ◌<◌, ℕ, Option, IfOk};
-ghost use Rattle.space.specs.declared.call.End.{End as Ending};
-ghost use Rattle.space.specs.declared.program.Program.{Program as OfProgram};
+ghost use Rattle.machines.specs.Prelude.{End as Ending, Program as OfProgram, ListedCall, AnswerValue, answer_value, Outcome, Goes, Asks, Instr, ReadsWords, Guest, guest_machine, guest_start};
 ghost use Rattle.space.specs.Memory.{AreApart};
-ghost use Rattle.space.specs.Reports.{ListedCall, AnswerValue, answer_value};
-ghost use Rattle.runs.specs.Machine.{Outcome, Goes, Asks};
-ghost use Rattle.ppc_isa.specs.declared.instr.Instr.{Instr};
 ghost use Rattle.access.specs.Kept.{HasClosedCode};
-ghost use Rattle.machines.specs.Readings.{ReadsWords};
-ghost use Rattle.machines.specs.Guest.{Guest, guest_machine, guest_start};
 ghost use Rattle.ppc_registers.specs.Held.{locs_of};
 ghost use Rattle.machine_calls.specs.Phases.{IsWaiting, Tells, stepped};
 ghost use Rattle.ppc_step.specs.Steps.{Shows, IsTold};

@@ -1,9 +1,7 @@
 //! Instructions that change registers alone.
 
 ghost use Rattle.std.specs.Prelude.{◌≡◌, ◌<◌, ℕ, false};
-ghost use Rattle.space.specs.declared.program.Program.{Program};
-ghost use Rattle.ppc_isa.specs.Legal.{IsLegal};
-ghost use Rattle.machines.specs.Guest.{Guest, effect_of, at_next, results, put_cr, put_special};
+ghost use Rattle.machines.specs.Prelude.{Program, IsLegal, Guest, effect_of, at_next, results, put_cr, put_special};
 ghost use Rattle.ppc_registers.specs.Held.{locs_of};
 ghost use Rattle.ppc_step.specs.Shown.{IsState, told, is_load};
 

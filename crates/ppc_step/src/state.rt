@@ -1,8 +1,7 @@
 //! What a machine goes on from.
 
 ghost use Rattle.std.specs.Prelude.{◌≡◌};
-ghost use Rattle.space.specs.declared.program.Program.{Program};
-ghost use Rattle.machines.specs.Guest.{Guest, at_next, behind};
+ghost use Rattle.machines.specs.Prelude.{Program, Guest, at_next, behind};
 ghost use Rattle.ppc_step.specs.Shown.{IsState};
 
 use ppc_registers::Registers;

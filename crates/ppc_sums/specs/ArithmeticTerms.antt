@@ -1,6 +1,6 @@
 -- The terms of arithmetic: what each row makes of its operands over any operations, in the order in which it makes it.
 use Rattle.std.specs.Prelude.{ℕ, Bool, true, false}
-use Rattle.word_kit.specs.Operations.{Operations}
+use Rattle.word_kit.specs.Prelude.{Operations}
 use Rattle.ppc_isa.specs.SumRows.{ones}
 use Rattle.ppc_isa.specs.declared.instr.ArithmeticOp.{ArithmeticOp}
 use Rattle.ppc_isa.specs.declared.instr.ArithmeticOp.TheVariants.{Add, Addc, Adde, Subf, Subfc, Subfe, Mullw, Mulhw, Mulhwu, Divw, Divwu}
@@ -8,8 +8,7 @@ use Rattle.ppc_isa.specs.declared.instr.ArithmeticUnaryOp.{ArithmeticUnaryOp}
 use Rattle.ppc_isa.specs.declared.instr.ArithmeticUnaryOp.TheVariants.{Addze, Addme, Subfze, Subfme, Neg}
 use Rattle.ppc_isa.specs.declared.instr.ImmediateOp.{ImmediateOp}
 use Rattle.ppc_isa.specs.declared.instr.ImmediateOp.TheVariants.{Addi, Addis, Addic, AddicRecord, Subfic, Mulli}
-use Rattle.ppc_parts.specs.Made.{RowMade}
-use Rattle.ppc_parts.specs.OperandTerms.{base_term}
+use Rattle.ppc_parts.specs.Prelude.{RowMade, base_term}
 use Rattle.ppc_parts.specs.declared.given.GuestIn.{GuestIn}
 use Rattle.ppc_sums.specs.ProductTerms.{product_term, high_product_term, divw_term, divwu_term}
 use Rattle.ppc_sums.specs.SumTerms.{sum_term, sum_carrying_term, ca_term}

@@ -1,12 +1,11 @@
 -- The terms of products and quotients. The dividend's high word is copies of its sign, or 0.
 use Rattle.std.specs.Prelude.{Bool, true, false}
-use Rattle.word_kit.specs.Operations.{Operations, WordMade}
+use Rattle.word_kit.specs.Prelude.{Operations, WordMade}
 use Rattle.ppc_isa.specs.declared.instr.ArithmeticOp.{ArithmeticOp}
 use Rattle.ppc_isa.specs.declared.instr.ArithmeticOp.TheVariants.{Mullw, Mulhw, Mulhwu, Divw, Divwu}
 use Rattle.ppc_isa.specs.declared.instr.ImmediateOp.{ImmediateOp}
 use Rattle.ppc_isa.specs.declared.instr.ImmediateOp.TheVariants.{Mulli}
-use Rattle.ppc_parts.specs.Made.{RowMade}
-use Rattle.ppc_parts.specs.RecordingTerms.{gives_d_term}
+use Rattle.ppc_parts.specs.Prelude.{RowMade, gives_d_term}
 use Rattle.ppc_parts.specs.declared.given.GuestIn.{GuestIn}
 
 -- the rows whose results nothing ties to their operands

@@ -1,8 +1,7 @@
 -- The terms of sums.
 use Rattle.std.specs.Prelude.{Bool}
-use Rattle.word_kit.specs.Operations.{Operations}
-use Rattle.ppc_parts.specs.Made.{RowMade}
-use Rattle.ppc_parts.specs.RecordingTerms.{gives_d_term, with_xer}
+use Rattle.word_kit.specs.Prelude.{Operations}
+use Rattle.ppc_parts.specs.Prelude.{RowMade, gives_d_term, with_xer}
 use Rattle.ppc_parts.specs.declared.given.GuestIn.{GuestIn}
 
 module _ {A W B H : Type 0} (ops : Operations W B H) where

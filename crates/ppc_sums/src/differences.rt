@@ -2,10 +2,10 @@
 
 ghost use Rattle.std.specs.Prelude.{true, ◌≡◌, IfOk, OnErr, IsTrue};
 ghost use Rattle.word_kit.specs.Algebra.{IsLater};
-ghost use Rattle.word_kit.specs.Words.{complement};
+ghost use Rattle.word_kit.specs.Prelude.{complement};
 ghost use Rattle.ppc_isa.specs.Recording.{ca};
 ghost use Rattle.ppc_isa.specs.SumRows.{sum_with, sum_carrying};
-ghost use Rattle.ppc_parts.specs.Meanings.{IsOwned, values_of, GivesEffect};
+ghost use Rattle.ppc_parts.specs.Prelude.{IsOwned, values_of, GivesEffect};
 ghost use Rattle.ppc_sums.specs.SumTerms.{sum_term, sum_carrying_term, ca_term};
 
 use crate::sums::{carry_in, sum, sum_carrying};

@@ -1,11 +1,11 @@
 //! Products and quotients.
 
 ghost use Rattle.std.specs.Prelude.{◌≡◌, ◌≤◌, IfOk, OnErr, IsTrue};
-ghost use Rattle.word_kit.specs.Algebra.{MayUntie, GivesWord};
-ghost use Rattle.word_kit.specs.Products.{product_low, product_high};
+ghost use Rattle.word_kit.specs.Prelude.{GivesWord, product_low, product_high};
+ghost use Rattle.word_kit.specs.Algebra.{MayUntie};
 ghost use Rattle.ppc_isa.specs.ProductRows.{quotient_signed, quotient_unsigned};
 ghost use Rattle.ppc_isa.specs.Recording.{gives_d};
-ghost use Rattle.ppc_parts.specs.Meanings.{IsOwned, values_of, GivesEffect};
+ghost use Rattle.ppc_parts.specs.Prelude.{IsOwned, values_of, GivesEffect};
 ghost use Rattle.ppc_sums.specs.ProductTerms.{product_term, high_product_term, signed_quotient_term, unsigned_quotient_term, divw_term, divwu_term};
 
 use ppc_parts::{Effect, GuestIn, gives_d};

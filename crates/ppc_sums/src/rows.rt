@@ -3,7 +3,7 @@
 ghost use Rattle.std.specs.Prelude.{false, ◌≡◌, IfOk, OnErr, IsTrue};
 ghost use Rattle.word_kit.specs.Algebra.{IsLater, MayUntie};
 ghost use Rattle.ppc_isa.specs.Rows.{immediate_row, arithmetic_row, arithmetic_unary_row};
-ghost use Rattle.ppc_parts.specs.Meanings.{IsOwned, values_of, GivesEffect};
+ghost use Rattle.ppc_parts.specs.Prelude.{IsOwned, values_of, GivesEffect};
 ghost use Rattle.ppc_sums.specs.ArithmeticTerms.{immediate_term, arithmetic_term, arithmetic_unary_term};
 ghost use Rattle.ppc_sums.specs.ProductTerms.{is_immediate_product, is_product};
 

@@ -4,7 +4,7 @@ ghost use Rattle.std.specs.Prelude.{false, ◌≡◌, ◌≤◌, ℕ, Bool, IfOk
 ghost use Rattle.word_kit.specs.Algebra.{IsLater};
 ghost use Rattle.ppc_isa.specs.Recording.{ca};
 ghost use Rattle.ppc_isa.specs.SumRows.{sum, sum_with, sum_carrying};
-ghost use Rattle.ppc_parts.specs.Meanings.{IsOwned, values_of, GivesEffect};
+ghost use Rattle.ppc_parts.specs.Prelude.{IsOwned, values_of, GivesEffect};
 ghost use Rattle.ppc_sums.specs.SumTerms.{sum_term, sum_carrying_term, ca_term};
 
 use ppc_parts::{Effect, GuestIn, gives_d};

@@ -1,10 +1,7 @@
 -- A possible move changes the place of its GPR alone.
 use Rattle.std.proofs.Common.{◌≡◌, ◌≢◌, ℕ, zero, suc, ◌<◌, false, Option, Some, None, refl, sym, ap, ◌∙◌, subst, arith}
-use Rattle.ppc_isa.specs.declared.map.Map.{Map}
-use Rattle.ppc_isa.specs.Map.{IsMap}
-use Rattle.reg_map.specs.Place.{holds, slot_of}
-use Rattle.reg_map.specs.Moves.{MovesOne, PossibleMovesMoveOne}
-use Rattle.reg_map.specs.declared.moves.Move.TheVariants.{Drop, Take}
+use Rattle.machines.specs.Prelude.{Map, IsMap}
+use Rattle.reg_map.specs.Prelude.{holds, slot_of, MovesOne, PossibleMovesMoveOne, Drop, Take}
 use Rattle.reg_map.proofs.Slots.{by_slots, in_none, holds_own, holds_other, apart_before, apart_behind, none_apart, held_apart, apart_held}
 
 abbrev map_of : Option ℕ → Option ℕ → Option ℕ → Map

@@ -2,7 +2,7 @@
 use Rattle.std.proofs.Common.{◌≡◌, ◌≢◌, ℕ, Bool, true, false, Option, Some, None, if◌then◌else◌, refl, arith}
 use Rattle.std.proofs.lemmas.Bool.Decides.{nat_tests}
 use Rattle.ppc_isa.specs.Map.{AreApart}
-use Rattle.reg_map.specs.Place.{holds}
+use Rattle.reg_map.specs.Prelude.{holds}
 
 -- the registers by what the slots hold of one GPR
 abbrev pub by_slots : Bool → Bool → Bool → Option ℕ

@@ -5,3 +5,4 @@ pub mod Words
 pub mod Relocated
 pub mod Moves
 pub mod Representation
+pub mod Prelude

@@ -1,12 +1,7 @@
 -- Moves, this project's own: a GPR goes from a cache register, its slot, to its home word, or from there to a slot. ebx, esi
 -- and edi are the slots 0, 1 and 2.
 use Rattle.std.specs.Prelude.{◌≡◌, ◌≢◌, ℕ, ◌<◌, ◌/◌, ◌%◌, ◌^◌, ◌==◌, Bool, Option, Some, None, if◌then◌else◌}
-use Rattle.ppc_isa.specs.declared.map.Map.{Map}
-use Rattle.ppc_isa.specs.Map.{IsMap}
-use Rattle.ia_codec.specs.declared.op.Op.{Op}
-use Rattle.ia_codec.specs.declared.op.Op.TheVariants.{MovTo, MovFrom}
-use Rattle.ia_codec.specs.declared.op.Operand.TheVariants.{Abs}
-use Rattle.ia_codec.specs.Registers.{ebx, esi, edi}
+use Rattle.machines.specs.Prelude.{Map, IsMap, Op, MovTo, MovFrom, Abs, ebx, esi, edi}
 use Rattle.reg_map.specs.Home.{gpr_home}
 use Rattle.reg_map.specs.Place.{slot_of}
 use Rattle.reg_map.specs.declared.moves.Move.{Move}

@@ -1,10 +1,7 @@
 -- Register maps, this project's own: the GPRs that the cache registers ebx, esi and edi hold.
 use Rattle.std.specs.Prelude.{◌≡◌, ℕ, ◌==◌, Bool, false, Option, Some, None, if◌then◌else◌}
-use Rattle.ppc_isa.specs.declared.map.Map.{Map}
+use Rattle.machines.specs.Prelude.{Map, Operand, Reg, Abs, ebx, esi, edi}
 pub use Rattle.ppc_isa.specs.Map.{IsMap}
-use Rattle.ia_codec.specs.declared.op.Operand.{Operand}
-use Rattle.ia_codec.specs.declared.op.Operand.TheVariants.{Reg, Abs}
-use Rattle.ia_codec.specs.Registers.{ebx, esi, edi}
 use Rattle.reg_map.specs.Home.{gpr_home}
 
 -- the map that holds no GPR

@@ -1,11 +1,9 @@
 -- When a host state represents a guest state under a register map. This project's own.
 use Rattle.std.specs.Prelude.{◌≡◌, ℕ, ◌+◌, ◌<◌, ◌≤◌, ◌^◌, ◌⊎◌, Bool, true, Option, Some, None}
-use Rattle.ppc_isa.specs.declared.map.Map.{Map}
+use Rattle.machines.specs.Prelude.{Map, Rights, Guest, Core, Place, Register, value_at}
 use Rattle.reg_map.specs.Home.{home, home_size, location_count, location_range}
 use Rattle.reg_map.specs.Place.{slot_of}
-use Rattle.machines.specs.Memory.{Rights}
-use Rattle.machines.specs.Guest.{Guest}
-use Rattle.machines.specs.Host.{Core, Place, Register, Memory, value_at}
+use Rattle.machines.specs.Host.{Memory}
 
 abbrev pub in_slot : Option ℕ → Place → Place
 in_slot (Some register) at_home = Register register

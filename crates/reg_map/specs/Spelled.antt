@@ -1,11 +1,7 @@
 -- Each op has one spelling (this project's own choice among those of the Intel SDM, volume 2): between
 -- registers the one with the register operand as the source, from memory the one that loads.
 use Rattle.std.specs.Prelude.{ℕ}
-use Rattle.ia_codec.specs.declared.op.AluOp.{AluOp}
-use Rattle.ia_codec.specs.declared.op.Operand.{Operand}
-use Rattle.ia_codec.specs.declared.op.Operand.TheVariants.{Reg}
-use Rattle.ia_codec.specs.declared.op.Op.{Op}
-use Rattle.ia_codec.specs.declared.op.Op.TheVariants.{AluTo, AluFrom, MovTo, MovFrom}
+use Rattle.machines.specs.Prelude.{AluOp, Operand, Reg, Op, AluTo, AluFrom, MovTo, MovFrom}
 
 -- mov to,from
 abbrev pub mov_from : ℕ → Operand → Op

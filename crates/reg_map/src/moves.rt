@@ -1,7 +1,7 @@
 //! Moves of a general register between a cache register and its home.
 
 ghost use Rattle.std.specs.Prelude.{◌≡◌, IfSome};
-ghost use Rattle.ia_codec.specs.Cost.{cost_of};
+ghost use Rattle.machines.specs.Prelude.{cost_of};
 ghost use Rattle.reg_map.specs.Place.{IsMap};
 ghost use Rattle.reg_map.specs.Moves.{slot_register, content as content_of, IsPossible, move_code, PossibleMovesMoveOne};
 

@@ -1,7 +1,7 @@
 //! The registers of the profile, by their numbers in opcodes and ModRM bytes (Intel SDM volume 2, table 2-2).
 
 ghost use Rattle.std.specs.Prelude.{◌≡◌};
-ghost use Rattle.ia_codec.specs.Registers.{eax, ecx, edx, ebx, esi, edi};
+ghost use Rattle.machines.specs.Prelude.{eax, ecx, edx, ebx, esi, edi};
 
 /// The first of the temporaries, which no register map uses.
 pub const EAX: u8 = 0;

@@ -1,12 +1,7 @@
 -- What accesses depend on.
 use Rattle.std.proofs.Common.{◌≡◌, ℕ, zero, suc, ◌+◌, ◌%◌, ◌^◌, ◌<◌, ◌≤◌, refl, ap, ◌∙◌, arith}
-use Rattle.ppc_isa.specs.Effect.{GuestValues, Effect}
+use Rattle.machines.specs.Prelude.{GuestValues, Effect, address_of, loads, stores, updates, word_reversed, half_reversed, half_extended, load_row, load_update_row, load_indexed_row, load_indexed_update_row, store_row, store_update_row, store_indexed_row, store_indexed_update_row, store_big, loaded_by, loaded_in, store_registers, LoadOp, Lwz, Lbz, Lhz, Lha, StoreOp, Stw, Stb, Sth, LoadUpdateOp, Lwzu, Lbzu, Lhzu, Lhau, StoreUpdateOp, Stwu, Stbu, Sthu, LoadIndexedOp, Lwzx, Lbzx, Lhzx, Lhax, Lwbrx, Lhbrx, StoreIndexedOp, Stwx, Stbx, Sthx, Stwbrx, Sthbrx, LoadIndexedUpdateOp, Lwzux, Lbzux, Lhzux, Lhaux, StoreIndexedUpdateOp, Stwux, Stbux, Sthux}
 use Rattle.ppc_isa.specs.SumRows.{base}
-use Rattle.ppc_isa.specs.AccessRows.{address_of, loads, stores, updates, word_reversed, half_reversed, half_extended}
-use Rattle.ppc_isa.specs.Rows.{load_row, load_update_row, load_indexed_row, load_indexed_update_row, store_row, store_update_row, store_indexed_row, store_indexed_update_row}
-use Rattle.machines.specs.Memory.{store_big}
-use Rattle.machines.specs.Guest.{loaded_by, loaded_in, store_registers}
-use Rattle.ppc_isa.specs.Instruction.{LoadOp, Lwz, Lbz, Lhz, Lha, StoreOp, Stw, Stb, Sth, LoadUpdateOp, Lwzu, Lbzu, Lhzu, Lhau, StoreUpdateOp, Stwu, Stbu, Sthu, LoadIndexedOp, Lwzx, Lbzx, Lhzx, Lhax, Lwbrx, Lhbrx, StoreIndexedOp, Stwx, Stbx, Sthx, Stwbrx, Sthbrx, LoadIndexedUpdateOp, Lwzux, Lbzux, Lhzux, Lhaux, StoreIndexedUpdateOp, Stwux, Stbux, Sthux}
 use Rattle.row_laws.proofs.Numbers.{both}
 
 -- the same access of two effects

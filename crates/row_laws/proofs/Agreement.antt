@@ -1,8 +1,6 @@
 -- Both laws together, in one location.
 use Rattle.std.proofs.Common.{◌≡◌, ◌≢◌, ℕ, ◌⊎◌, List, [], ◌∷◌, Contains, sym, ◌∙◌, subst, inl, inr, arith}
-use Rattle.runs.specs.Machine.{Outcome, Goes, Asks, Ends}
-use Rattle.ppc_isa.specs.Locations.{locations_written}
-use Rattle.machines.specs.Guest.{Guest, effect_of, guest_acts}
+use Rattle.machines.specs.Prelude.{Outcome, Goes, Asks, Ends, locations_written, Guest, effect_of, guest_acts}
 use Rattle.row_laws.specs.Laws.{Next, Alike, AreSame, AgreeBut, KeepsAgreement}
 use Rattle.row_laws.proofs.Lists.{Lacks, none_in, first_in, later_in, first_or_later}
 use Rattle.row_laws.proofs.Changes.{changes}

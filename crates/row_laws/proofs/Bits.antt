@@ -5,8 +5,7 @@ use Rattle.std.proofs.Math.Arith.{digits_div}
 use Rattle.std.proofs.Math.Pow.{pow_pos}
 use Rattle.std.proofs.lemmas.Nat.{pow-add}
 use Rattle.std.proofs.lemmas.Bool.Decides.{nat_tests}
-use Rattle.word_kit.specs.Words.{one_if, complement}
-use Rattle.word_kit.specs.Bits.{bit_of, of_bits, word_and, word_or}
+use Rattle.machines.specs.Prelude.{one_if, complement, bit_of, of_bits, word_and, word_or}
 use Rattle.row_laws.proofs.Digits.{digit, bit_in_digit}
 
 pub below_power : (bits : ℕ → Bool) (n : ℕ) → of_bits bits n < 2 ^ n

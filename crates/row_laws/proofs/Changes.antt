@@ -1,21 +1,8 @@
 -- An instruction leaves what it doesn't write, by the shape of its row.
 use Rattle.std.proofs.Common.{◌≡◌, ℕ, ◌+◌, ◌-◌, ◌*◌, ◌/◌, ◌<◌, Bool, true, false, cond, eqb, List, [], ◌∷◌, ◌++◌, refl, ◌∙◌}
-use Rattle.space.specs.declared.call.End.TheVariants.{Trap as Trapped, Outside}
-use Rattle.runs.specs.Machine.{Goes, Ends}
-use Rattle.word_kit.specs.Words.{is_less}
-use Rattle.ppc_isa.specs.Locations.{when, count, registers_from, immediate_carries, immediate_records, logic_immediate_records, carry_out, unary_carry, logic_carries}
-use Rattle.ppc_isa.specs.Effect.{GuestValues, Effect}
+use Rattle.machines.specs.Prelude.{Trap as Trapped, Outside, Goes, Ends, is_less, when, count, registers_from, immediate_carries, immediate_records, logic_immediate_records, carry_out, unary_carry, logic_carries, GuestValues, Effect, cr_bit, cr_logic, counted, loses_ones, rotate, logic_immediate, guest_row, update, store_big, each_byte, Rights, Guest, guest_values, loaded_in, effect_of, at_next, load_outcome, store_outcome, put_cr, put_loaded, store_registers, linked, Instr, Immediate, LogicImmediate, Load, Store, LoadUpdate, StoreUpdate, Multiple, TrapImmediate, CompareImmediate, Rotate, Branch, BranchConditional, SystemCall, Arithmetic, ArithmeticUnary, Logic, ShiftImmediate, LogicUnary, Compare, Trap, MoveFromCr, MoveToCr, MoveFromSpr, MoveToSpr, Sync, LoadIndexed, StoreIndexed, LoadIndexedUpdate, StoreIndexedUpdate, MoveCrField, CrLogic, Isync, BranchRegister, Lmw, Stmw, CompareImmediateOp, Cmpi, Cmpli, CompareOp, Cmp, Cmpl}
 use Rattle.ppc_isa.specs.Recording.{so}
-use Rattle.ppc_isa.specs.FieldRows.{cr_bit, cr_logic}
-use Rattle.ppc_isa.specs.BranchRows.{counted}
-use Rattle.ppc_isa.specs.ShiftRows.{loses_ones}
-use Rattle.ppc_isa.specs.RotateRows.{rotate}
-use Rattle.ppc_isa.specs.LogicRows.{logic_immediate}
-use Rattle.ppc_isa.specs.Rows.{guest_row}
-use Rattle.machines.specs.Memory.{update, store_big, each_byte, Rights}
-use Rattle.machines.specs.Guest.{Guest, guest_values, loaded_in, effect_of, at_next, load_outcome, store_outcome, put_cr, put_loaded, store_registers, linked}
 use Rattle.row_laws.specs.Laws.{Next, AgreeBut, ChangesItsWritesAlone}
-use Rattle.ppc_isa.specs.Instruction.{Instr, Immediate, LogicImmediate, Load, Store, LoadUpdate, StoreUpdate, Multiple, TrapImmediate, CompareImmediate, Rotate, Branch, BranchConditional, SystemCall, Arithmetic, ArithmeticUnary, Logic, ShiftImmediate, LogicUnary, Compare, Trap, MoveFromCr, MoveToCr, MoveFromSpr, MoveToSpr, Sync, LoadIndexed, StoreIndexed, LoadIndexedUpdate, StoreIndexedUpdate, MoveCrField, CrLogic, Isync, BranchRegister, Lmw, Stmw, CompareImmediateOp, Cmpi, Cmpli, CompareOp, Cmp, Cmpl}
 use Rattle.row_laws.proofs.Lists.{Lacks, not_first, not_later, not_left, not_right}
 use Rattle.row_laws.proofs.Shapes.{shifts, gives_in_a, immediate_carry, arithmetic_carry, arithmetic_unary_carry, logic_carry, immediate_gives, arithmetic_gives, arithmetic_unary_gives, logic_gives, logic_unary_gives}
 use Rattle.row_laws.proofs.Kept.{next_cond, update_other, field_alone, bit_alone, Stands, results_kept, special_kept, fields_kept, loaded_kept, linked_kept, counted_kept, call_kept}

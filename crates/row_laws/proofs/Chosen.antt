@@ -1,8 +1,6 @@
 -- The fields of CR that FXM chooses get those of another word, and the others stay.
 use Rattle.std.proofs.Common.{◌≡◌, ℕ, ◌+◌, ◌*◌, ◌/◌, ◌<◌, Bool, true, false, not, ◌&&◌, ◌||◌, refl, ap, ◌∙◌, arith}
-use Rattle.word_kit.specs.Words.{complement}
-use Rattle.word_kit.specs.Bits.{bit_of, word_and, word_or}
-use Rattle.ppc_isa.specs.FieldRows.{fields_mask}
+use Rattle.machines.specs.Prelude.{complement, bit_of, word_and, word_or, fields_mask}
 use Rattle.row_laws.proofs.Digits.{digit}
 use Rattle.row_laws.proofs.Bits.{bit_given, bit_complement, bit_and_given, bit_or_given, digit_from_bits}
 

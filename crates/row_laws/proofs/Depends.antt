@@ -1,21 +1,9 @@
 -- An instruction depends on what it reads, by the shape of its row.
 use Rattle.std.proofs.Common.{◌≡◌, ℕ, ◌+◌, ◌-◌, ◌*◌, ◌/◌, ◌<◌, ◌==◌, Bool, true, false, cond, List, [], ◌∷◌, ◌++◌, refl, sym, ap, ◌∙◌, subst, arith}
-use Rattle.space.specs.declared.call.End.TheVariants.{Trap as Trapped}
-use Rattle.runs.specs.Machine.{Goes, Ends}
-use Rattle.word_kit.specs.Bits.{bit_of}
-use Rattle.ppc_isa.specs.Legal.{IsLegal, bo_0, bo_2}
-use Rattle.ppc_isa.specs.Locations.{when, base, count, condition, special, registers_from, chosen_fields, target_of, immediate_operand, immediate_carries, immediate_records, logic_immediate_records, rotate_operands, carry_in, carry_out, unary_carry, logic_carries, locations_read, locations_written}
-use Rattle.ppc_isa.specs.Recording.{place}
-use Rattle.ppc_isa.specs.FieldRows.{cr_bit, cr_logic}
-use Rattle.ppc_isa.specs.ShiftRows.{loses_ones, arith_by}
-use Rattle.ppc_isa.specs.LogicRows.{logic_immediate}
-use Rattle.ppc_isa.specs.CompareRows.{trap_holds}
+use Rattle.machines.specs.Prelude.{Trap as Trapped, Goes, Ends, bit_of, IsLegal, bo_0, bo_2, when, count, condition, special, registers_from, chosen_fields, target_of, immediate_operand, immediate_carries, immediate_records, logic_immediate_records, rotate_operands, carry_in, carry_out, unary_carry, logic_carries, locations_read, locations_written, place, cr_bit, cr_logic, loses_ones, arith_by, logic_immediate, trap_holds, load_row, load_update_row, load_indexed_row, load_indexed_update_row, update, store_big, Rights, Guest, guest_values, effect_of, guest_acts, at_next, cr_word, xer_word, put_cr, put_loaded, store_registers, results, put_special, register_target, branch_target, Instr, Immediate, LogicImmediate, Load, Store, LoadUpdate, StoreUpdate, Multiple, TrapImmediate, CompareImmediate, Rotate, Branch, BranchConditional, SystemCall, Arithmetic, ArithmeticUnary, Logic, ShiftImmediate, LogicUnary, Compare, Trap, MoveFromCr, MoveToCr, MoveFromSpr, MoveToSpr, Sync, LoadIndexed, StoreIndexed, LoadIndexedUpdate, StoreIndexedUpdate, MoveCrField, CrLogic, Isync, BranchRegister, ImmediateOp, LogicImmediateOp, LoadOp, StoreOp, LoadUpdateOp, StoreUpdateOp, LoadIndexedOp, StoreIndexedOp, LoadIndexedUpdateOp, StoreIndexedUpdateOp, RotateOp, ArithmeticOp, ArithmeticUnaryOp, LogicOp, LogicUnaryOp, CrLogicOp, Lmw, Stmw, CompareImmediateOp, Cmpi, Cmpli, CompareOp, Cmp, Cmpl, BranchRegisterOp, Bclr, Bcctr}
+use Rattle.ppc_isa.specs.Locations.{base}
 use Rattle.ppc_isa.specs.SumRows.{base as base_value}
-use Rattle.ppc_isa.specs.Rows.{load_row, load_update_row, load_indexed_row, load_indexed_update_row}
-use Rattle.machines.specs.Memory.{update, store_big, Rights}
-use Rattle.machines.specs.Guest.{Guest, guest_values, effect_of, guest_acts, at_next, cr_word, xer_word, put_cr, put_loaded, store_registers, results, put_special, register_target, branch_target}
 use Rattle.row_laws.specs.Laws.{Alike, AreSame, DependsOnItsReadsAlone}
-use Rattle.ppc_isa.specs.Instruction.{Instr, Immediate, LogicImmediate, Load, Store, LoadUpdate, StoreUpdate, Multiple, TrapImmediate, CompareImmediate, Rotate, Branch, BranchConditional, SystemCall, Arithmetic, ArithmeticUnary, Logic, ShiftImmediate, LogicUnary, Compare, Trap, MoveFromCr, MoveToCr, MoveFromSpr, MoveToSpr, Sync, LoadIndexed, StoreIndexed, LoadIndexedUpdate, StoreIndexedUpdate, MoveCrField, CrLogic, Isync, BranchRegister, ImmediateOp, LogicImmediateOp, LoadOp, StoreOp, LoadUpdateOp, StoreUpdateOp, LoadIndexedOp, StoreIndexedOp, LoadIndexedUpdateOp, StoreIndexedUpdateOp, RotateOp, ArithmeticOp, ArithmeticUnaryOp, LogicOp, LogicUnaryOp, CrLogicOp, Lmw, Stmw, CompareImmediateOp, Cmpi, Cmpli, CompareOp, Cmp, Cmpl, BranchRegisterOp, Bclr, Bcctr}
 use Rattle.row_laws.proofs.Fields.{InRange}
 use Rattle.row_laws.proofs.Lists.{SameIn, same_first, same_later, same_left, same_right, same_when, in_none, registers_in}
 use Rattle.row_laws.proofs.Shapes.{shifts, gives_in_a, immediate_carry, arithmetic_carry, arithmetic_unary_carry, logic_carry, immediate_gives, arithmetic_gives, arithmetic_unary_gives, logic_gives, logic_unary_gives}

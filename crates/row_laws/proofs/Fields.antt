@@ -2,11 +2,8 @@
 use Rattle.std.proofs.Common.{◌≡◌, ◌≢◌, ℕ, zero, suc, ◌+◌, ◌-◌, ◌*◌, ◌/◌, ◌%◌, ◌^◌, ◌<◌, ◌≤◌, ◌⊎◌, Bool, true, false, cond, eqb, refl, ap, ◌∙◌, inl, inr, arith}
 use Rattle.std.proofs.lemmas.Bool.{eqb-true}
 use Rattle.std.proofs.lemmas.Bool.Decides.{nat_tests}
-use Rattle.word_kit.specs.Words.{one_if}
-use Rattle.word_kit.specs.Bits.{with_bit}
-use Rattle.ppc_isa.specs.Recording.{with_ca, with_field}
-use Rattle.reg_map.specs.Home.{location_count, location_range}
-use Rattle.machines.specs.Guest.{cr_word, xer_word, put_cr, put_xer}
+use Rattle.machines.specs.Prelude.{one_if, with_bit, with_ca, with_field, cr_word, xer_word, put_cr, put_xer}
+use Rattle.reg_map.specs.Prelude.{location_count, location_range}
 use Rattle.row_laws.proofs.Digits.{digit, with_bit_other, with_bit_own}
 
 -- each location has a value that it can have

@@ -2,18 +2,9 @@
 use Rattle.std.proofs.Common.{◌≡◌, ◌≢◌, ℕ, ◌+◌, ◌-◌, ◌*◌, ◌/◌, ◌%◌, ◌^◌, ◌<◌, ◌≤◌, Bool, true, false, cond, eqb, leb, ltb, ◌==◌, ◌&&◌, ◌||◌, Contains, [], ◌∷◌, ◌++◌, refl, sym, ap, ◌∙◌, subst, inl, inr, arith}
 use Rattle.std.proofs.lemmas.Bool.{eqb-true}
 use Rattle.std.proofs.lemmas.Bool.Decides.{nat_tests}
-use Rattle.space.specs.declared.call.End.TheVariants.{Exit, Outside}
-use Rattle.space.specs.Reports.{Read, Write, Close, Given, Gives as GivesResult, Fails, given}
-use Rattle.runs.specs.Machine.{Outcome, Goes, Ends}
-use Rattle.word_kit.specs.Words.{is_less, sum_word}
-use Rattle.word_kit.specs.Bits.{bit_of, with_bit}
-use Rattle.ppc_isa.specs.Legal.{IsSpr, bo_2}
-use Rattle.ppc_isa.specs.Locations.{when, count, special, registers_from, chosen_fields, ca, cr}
-use Rattle.ppc_isa.specs.Effect.{GuestValues, Effect}
-use Rattle.ppc_isa.specs.Recording.{so, place, with_ca, with_field}
-use Rattle.ppc_isa.specs.BranchRows.{bo_bit, counted}
-use Rattle.machines.specs.Memory.{update, load_big, block, each_byte, Rights}
-use Rattle.machines.specs.Guest.{Guest, cr_word, xer_word, put_cr, put_xer, results, puts_cr, puts_xer, put_special, put_loaded, linked, behind, after_guest_call, without_so, with_so, guest_asks, guest_system_call}
+use Rattle.machines.specs.Prelude.{Exit, Outside, Read, Write, Close, Given, Gives as GivesResult, Fails, given, Outcome, Goes, Ends, is_less, sum_word, bit_of, with_bit, IsSpr, bo_2, when, count, special, registers_from, chosen_fields, cr, GuestValues, Effect, place, with_ca, with_field, bo_bit, counted, update, load_big, block, each_byte, Rights, Guest, cr_word, xer_word, put_cr, put_xer, results, puts_cr, puts_xer, put_special, put_loaded, linked, behind, after_guest_call, without_so, with_so, guest_asks, guest_system_call}
+use Rattle.ppc_isa.specs.Locations.{ca}
+use Rattle.ppc_isa.specs.Recording.{so}
 use Rattle.row_laws.specs.Laws.{Next, AgreeBut}
 use Rattle.row_laws.proofs.Digits.{digit, with_bit_other}
 use Rattle.row_laws.proofs.Fields.{InRange, field_of_word, so_of_word, ov_of_word, xc_of_word, so_with_ca, ov_with_ca, xc_with_ca, with_field_other, put_cr_keeps, put_xer_keeps}

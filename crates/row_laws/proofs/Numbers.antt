@@ -1,18 +1,8 @@
 -- What the rows that give one result read for it.
 use Rattle.std.proofs.Common.{◌≡◌, ℕ, ◌+◌, ◌%◌, ◌^◌, Bool, true, false, cond, eqb, [], ◌∷◌, refl, ap, ◌∙◌}
-use Rattle.word_kit.specs.Words.{complement, sum_word, sum_carries}
-use Rattle.word_kit.specs.Bits.{rotated, mask, word_and, word_or, word_xor}
-use Rattle.word_kit.specs.Products.{product_low, product_high}
-use Rattle.ppc_isa.specs.Locations.{base, immediate_operand, carry_in, unary_carry, rotate_operands}
-use Rattle.ppc_isa.specs.Effect.{GuestValues}
+use Rattle.machines.specs.Prelude.{complement, sum_word, sum_carries, rotated, mask, word_and, word_or, word_xor, product_low, product_high, immediate_operand, carry_in, unary_carry, rotate_operands, GuestValues, left_by, right_by, arith_by, loses_ones, leading_zeros, rotate, quotient_signed, quotient_unsigned, half_extended, byte_extended, immediate_row, arithmetic_row, arithmetic_unary_row, logic_row, logic_unary_row, guest_values, immediate_word, Immediate, Rotate, ImmediateOp, Addi, Addis, Addic, AddicRecord, Subfic, Mulli, RotateOp, Rlwinm, Rlwnm, Rlwimi, ArithmeticOp, Add, Addc, Adde, Subf, Subfc, Subfe, Mullw, Mulhw, Mulhwu, Divw, Divwu, ArithmeticUnaryOp, Addze, Addme, Subfze, Subfme, Neg, LogicOp, And, Or, Xor, Nand, Nor, Eqv, Andc, Orc, Slw, Srw, Sraw, LogicUnaryOp, Cntlzw, Extsb, Extsh}
+use Rattle.ppc_isa.specs.Locations.{base}
 use Rattle.ppc_isa.specs.Recording.{ca}
-use Rattle.ppc_isa.specs.ShiftRows.{left_by, right_by, arith_by, loses_ones, leading_zeros}
-use Rattle.ppc_isa.specs.RotateRows.{rotate}
-use Rattle.ppc_isa.specs.ProductRows.{quotient_signed, quotient_unsigned}
-use Rattle.ppc_isa.specs.AccessRows.{half_extended, byte_extended}
-use Rattle.ppc_isa.specs.Rows.{immediate_row, arithmetic_row, arithmetic_unary_row, logic_row, logic_unary_row}
-use Rattle.machines.specs.Guest.{guest_values, immediate_word}
-use Rattle.ppc_isa.specs.Instruction.{Immediate, Rotate, ImmediateOp, Addi, Addis, Addic, AddicRecord, Subfic, Mulli, RotateOp, Rlwinm, Rlwnm, Rlwimi, ArithmeticOp, Add, Addc, Adde, Subf, Subfc, Subfe, Mullw, Mulhw, Mulhwu, Divw, Divwu, ArithmeticUnaryOp, Addze, Addme, Subfze, Subfme, Neg, LogicOp, And, Or, Xor, Nand, Nor, Eqv, Andc, Orc, Slw, Srw, Sraw, LogicUnaryOp, Cntlzw, Extsb, Extsh}
 use Rattle.row_laws.proofs.Lists.{SameIn, same_first, same_later}
 use Rattle.row_laws.proofs.Shapes.{immediate_carry, arithmetic_carry, arithmetic_unary_carry, logic_carry}
 

@@ -1,19 +1,9 @@
 -- What two states that agree where an instruction reads leave where it writes.
 use Rattle.std.proofs.Common.{◌≡◌, ℕ, ◌+◌, ◌-◌, ◌*◌, ◌/◌, ◌%◌, ◌^◌, ◌<◌, ◌≤◌, ◌==◌, Bool, true, false, cond, eqb, leb, ltb, ◌&&◌, ◌||◌, List, [], ◌∷◌, ◌++◌, refl, sym, ap, ◌∙◌, subst, inl, inr, arith}
 use Rattle.std.proofs.lemmas.Bool.Decides.{nat_tests}
-use Rattle.space.specs.declared.call.End.TheVariants.{Exit, Outside}
-use Rattle.space.specs.Reports.{ListedCall, Read, Write, Close, Given, Gives as GivesResult, Fails, given}
-use Rattle.runs.specs.Machine.{Outcome, Goes, Ends}
-use Rattle.word_kit.specs.Words.{one_if, same, is_less, sum_word}
-use Rattle.word_kit.specs.Bits.{bit_of, with_bit, word_and}
-use Rattle.ppc_isa.specs.Legal.{IsSpr, bo_0, bo_2}
-use Rattle.ppc_isa.specs.Locations.{when, count, special, registers_from, chosen_fields, ca, cr}
-use Rattle.ppc_isa.specs.Effect.{GuestValues, Effect}
-use Rattle.ppc_isa.specs.Recording.{so, place, with_ca, with_field, compared}
-use Rattle.ppc_isa.specs.FieldRows.{cr_bit, special_put}
-use Rattle.ppc_isa.specs.BranchRows.{bo_bit, counted, count_allows, condition_allows}
-use Rattle.machines.specs.Memory.{update, load_big, block, put_block, each_byte, Rights}
-use Rattle.machines.specs.Guest.{Guest, cr_word, xer_word, put_cr, results, puts_cr, puts_xer, put_special, put_loaded, linked, behind, at_next, branches, load_outcome, store_outcome, after_guest_call, without_so, with_so, guest_asks, guest_system_call}
+use Rattle.machines.specs.Prelude.{Exit, Outside, ListedCall, Read, Write, Close, Given, Gives as GivesResult, Fails, given, Outcome, Goes, Ends, one_if, same, is_less, sum_word, bit_of, with_bit, word_and, IsSpr, bo_0, bo_2, when, count, special, registers_from, chosen_fields, cr, GuestValues, Effect, place, with_ca, with_field, compared, cr_bit, special_put, bo_bit, counted, count_allows, condition_allows, update, load_big, block, put_block, each_byte, Rights, Guest, cr_word, xer_word, put_cr, results, puts_cr, puts_xer, put_special, put_loaded, linked, behind, at_next, branches, load_outcome, store_outcome, after_guest_call, without_so, with_so, guest_asks, guest_system_call}
+use Rattle.ppc_isa.specs.Locations.{ca}
+use Rattle.ppc_isa.specs.Recording.{so}
 use Rattle.row_laws.specs.Laws.{Alike, AreSame}
 use Rattle.row_laws.proofs.Digits.{digit, bit_in_digit, with_bit_own}
 use Rattle.row_laws.proofs.Fields.{InRange, field_of_word, ca_of_word, so_of_word, ca_put, four_bits, with_field_own, put_cr_at, put_cr_off, put_xer_off}

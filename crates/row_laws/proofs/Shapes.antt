@@ -1,13 +1,7 @@
 -- The rows that give one result, and may record it and put CA.
 use Rattle.std.proofs.Common.{◌≡◌, ℕ, ◌%◌, Bool, true, false, cond, refl, ap}
-use Rattle.word_kit.specs.Words.{complement, sum_word, sum_carries}
-use Rattle.ppc_isa.specs.Instruction.{ImmediateOp, Addi, Addis, Addic, AddicRecord, Subfic, Mulli, ArithmeticOp, Add, Addc, Adde, Subf, Subfc, Subfe, Mullw, Mulhw, Mulhwu, Divw, Divwu, ArithmeticUnaryOp, Addze, Addme, Subfze, Subfme, Neg, LogicOp, And, Or, Xor, Nand, Nor, Eqv, Andc, Orc, Slw, Srw, Sraw, LogicUnaryOp, Cntlzw, Extsb, Extsh}
-use Rattle.ppc_isa.specs.Locations.{immediate_carries, immediate_records, carry_out, unary_carry, logic_carries}
-use Rattle.ppc_isa.specs.Effect.{GuestValues, Effect}
-use Rattle.ppc_isa.specs.Recording.{ca, with_ca, compared, recorded, gives_d, gives_a}
-use Rattle.ppc_isa.specs.SumRows.{ones, sum_carrying}
-use Rattle.ppc_isa.specs.ShiftRows.{arith_by, loses_ones, shifted_algebraic}
-use Rattle.ppc_isa.specs.Rows.{immediate_row, arithmetic_row, arithmetic_unary_row, logic_row, logic_unary_row}
+use Rattle.machines.specs.Prelude.{complement, sum_word, sum_carries, ImmediateOp, Addi, Addis, Addic, AddicRecord, Subfic, Mulli, ArithmeticOp, Add, Addc, Adde, Subf, Subfc, Subfe, Mullw, Mulhw, Mulhwu, Divw, Divwu, ArithmeticUnaryOp, Addze, Addme, Subfze, Subfme, Neg, LogicOp, And, Or, Xor, Nand, Nor, Eqv, Andc, Orc, Slw, Srw, Sraw, LogicUnaryOp, Cntlzw, Extsb, Extsh, immediate_carries, immediate_records, carry_out, unary_carry, logic_carries, GuestValues, Effect, with_ca, compared, recorded, gives_d, gives_a, ones, sum_carrying, arith_by, loses_ones, shifted_algebraic, immediate_row, arithmetic_row, arithmetic_unary_row, logic_row, logic_unary_row}
+use Rattle.ppc_isa.specs.Recording.{ca}
 
 -- a row that records this number, where it records, and puts this carry, where it carries
 pub record Gives (carries records : Bool) (number : ℕ) (carry : Bool) (e : Effect) (v : GuestValues) : Type 0 where

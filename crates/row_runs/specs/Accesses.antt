@@ -1,7 +1,7 @@
 -- What a run accesses. This project's own.
 use Rattle.std.specs.Prelude.{◌≡◌, ◌+◌, ◌%◌, ◌^◌, ◌==◌, if◌then◌else◌, ℕ, Bool, true, List}
 use Rattle.std.specs.List.{All}
-use Rattle.word_kit.specs.Bits.{byte_of, joined}
+use Rattle.word_kit.specs.Prelude.{byte_of, joined}
 
 -- Whether it loads, how many bytes, from which address on, and for a store the bytes that are stored, as the number whose
 -- highest byte comes first.

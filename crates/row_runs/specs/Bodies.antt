@@ -2,8 +2,7 @@
 -- numbered places. The processor chooses what an op leaves undefined, and an oracle answers loads. This project's own.
 use Rattle.std.specs.Prelude.{ℕ, zero, suc, ◌++◌, ◌∷◌, [], Bool, true, false, List, Option, None, Some}
 use Rattle.ia_codec.specs.declared.op.Op.{Op}
-use Rattle.ia_codec.specs.Effect.{Flags, HostEffect}
-use Rattle.ia_codec.specs.Rows.{host_row}
+use Rattle.ia_codec.specs.Prelude.{Flags, HostEffect, host_row}
 use Rattle.row_runs.specs.Accesses.{Accessed, little_number, turned}
 
 -- so many bytes from an address on

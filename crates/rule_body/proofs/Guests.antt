@@ -1,7 +1,6 @@
 -- The words of a window in arrays.
 use Rattle.std.proofs.Common.{◌≡◌, ℕ, zero, suc, ◌<◌, ◌≤◌, Bool, List, [], ◌∷◌, length, get_or, take, slice_get, Some, refl, arith}
-use Rattle.rule_body.specs.declared.goal.Guest.{Guest}
-use Rattle.rule_body.specs.Goals.{guests}
+use Rattle.rule_body.specs.Prelude.{Guest, guests}
 
 pub guest-at : (ws : List ℕ) (fs : List Bool) (n k : ℕ) (f : Bool) → k < n → n ≤ length ws → length fs ≡ length ws
     → (let g : Guest = record { word = get_or ws k 0; free = get_or fs k f } in Some g) ≡ slice_get (take n (guests ws fs)) k

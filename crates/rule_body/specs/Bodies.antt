@@ -2,7 +2,7 @@
 use Rattle.std.specs.Prelude.{◌≡◌, ◌⊎◌, ℕ, ◌+◌, ◌≤◌, List, length, Option, Some, None, take, drop, count_by, sum_by}
 use Rattle.std.specs.List.{AllByRecursion}
 use Rattle.ia_codec.specs.declared.op.Op.TheVariants.{Int3}
-use Rattle.ia_codec.specs.Cost.{cost_of}
+use Rattle.ia_codec.specs.Prelude.{cost_of}
 use Rattle.rule_body.specs.declared.goal.Goal.{Goal}
 use Rattle.rule_body.specs.declared.line.HostLine.{HostLine}
 use Rattle.rule_body.specs.declared.body.Body.{Body}

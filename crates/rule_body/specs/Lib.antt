@@ -6,3 +6,4 @@ pub mod Ops
 pub mod Lines
 pub mod Bodies
 pub mod Rules
+pub mod Prelude

@@ -4,7 +4,7 @@ use Rattle.std.specs.List.{AllByRecursion}
 use Rattle.ia_codec.specs.declared.op.Operand.{Operand}
 use Rattle.ia_codec.specs.declared.op.Operand.TheVariants.{Reg, Abs, Base, Pair}
 use Rattle.ia_codec.specs.declared.op.Op.{Op}
-use Rattle.ia_codec.specs.Spelling.{IsInProfile}
+use Rattle.ia_codec.specs.Prelude.{IsInProfile}
 use Rattle.rule_body.specs.declared.line.Hole.{Hole}
 use Rattle.rule_body.specs.declared.line.HostLine.{HostLine}
 use Rattle.rule_body.specs.declared.operands.OpParts.{OpParts}

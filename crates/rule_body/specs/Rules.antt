@@ -1,7 +1,7 @@
 -- Rules: a goal, a body for it, and the clauses of a refutation.
 use Rattle.std.specs.Prelude.{ℕ, ◌<◌, ◌≤◌, ◌^◌, List, [], ◌∷◌, ℤ, length}
 use Rattle.std.specs.List.{AllByRecursion}
-use Rattle.word_kit.specs.Formulas.{variable}
+use Rattle.word_kit.specs.Prelude.{variable}
 use Rattle.rule_body.specs.declared.rule.Rule.{Rule}
 use Rattle.rule_body.specs.Goals.{IsGoal}
 use Rattle.rule_body.specs.Bodies.{IsBody}

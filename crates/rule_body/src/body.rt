@@ -2,7 +2,7 @@
 
 ghost use Rattle.std.specs.Prelude.{◌≡◌, ◌↔◌, ◌≤◌, ◌+◌, ◌<◌, IsTrue, count_by, take, drop, sum_by, List, length};
 ghost use Rattle.std.specs.List.{AllByRecursion};
-ghost use Rattle.ia_codec.specs.Cost.{cost_of};
+ghost use Rattle.ia_codec.specs.Prelude.{cost_of};
 ghost use Rattle.rule_body.specs.declared.line.HostLine.{HostLine as Line};
 ghost use Rattle.rule_body.specs.Templates.{IsBranching};
 ghost use Rattle.rule_body.specs.Goals.{IsGoal, guests_of, template_of};

@@ -7,11 +7,9 @@ use Rattle.rule_body.specs.declared.goal.Guest.{Guest}
 use Rattle.rule_body.specs.declared.line.HostLine.{HostLine}
 use Rattle.rule_body.specs.declared.body.Body.{Body}
 use Rattle.rule_body.specs.declared.rule.Rule.{Rule}
-use Rattle.rule_body.specs.Goals.{guests, guests_of}
-use Rattle.rule_body.specs.Bodies.{lines_of, no_line}
-use Rattle.rule_body.specs.Rules.{IsRule}
+use Rattle.rule_body.specs.Prelude.{guests, guests_of, lines_of, no_line, IsRule}
 use Rattle.rule_body.proofs.Guests.{length-guests}
-use Rattle.rule_form.specs.Texts.{RuleText, written, HasRoom}
+use Rattle.rule_form.specs.Prelude.{RuleText, written, HasRoom}
 use Rattle.rule_form.proofs.Growing.{length-take}
 
 -- lists of one length whose elements are all the same are one

@@ -3,9 +3,9 @@ use Rattle.std.proofs.Common.{◌≡◌, ◌≢◌, ℕ, ℤ, pos, negsuc, zero,
 use Rattle.std.proofs.lemmas.Fmt.{decimal_injective}
 use Rattle.std.proofs.lemmas.List.{length-map}
 use Rattle.std.specs.List.{AllByRecursion}
-use Rattle.word_kit.specs.Formulas.{IsLiteral, variable}
-use Rattle.rule_body.specs.Rules.{AreRising}
-use Rattle.rule_form.specs.Words.{literal_word}
+use Rattle.word_kit.specs.Prelude.{IsLiteral, variable}
+use Rattle.rule_body.specs.Prelude.{AreRising}
+use Rattle.rule_form.specs.Prelude.{literal_word}
 
 -- 0 is no variable
 pub not-zero : (word : List ℕ) (m n : ℕ) → m ≡ 0 → word ≡ decimal m → 0 < n → n < 2 ^ 31 → word ≡ decimal n → ⊥

@@ -5,8 +5,7 @@ use Rattle.std.proofs.lemmas.List.Splits.{join_with_byte-slice_split}
 use Rattle.std.specs.List.{AllByRecursion, join_with_byte, slice_split}
 use Rattle.line_text.specs.Lines.{IsFree}
 use Rattle.line_text.proofs.Lines.{split-join}
-use Rattle.rule_form.specs.Names.{Differ}
-use Rattle.rule_form.specs.Words.{names, chosen, listed, dead_word}
+use Rattle.rule_form.specs.Prelude.{Differ, names, chosen, listed, dead_word}
 use Rattle.rule_form.proofs.Separate.{IsWord, word, word-join, tested, both, not-true, is_free}
 
 -- the bytes of a name as one number

@@ -4,15 +4,10 @@ use Rattle.std.specs.List.{AllByRecursion}
 use Rattle.line_text.specs.FirstBad.{IsFirstBad}
 use Rattle.line_text.proofs.Reading.{IsRead, bad-end, good-end, text-same, text-good}
 use Rattle.rule_body.specs.declared.rule.Rule.{Rule}
-use Rattle.rule_body.specs.Rules.{IsRule, AreRules}
-use Rattle.rule_form.specs.declared.progress.Progress.{Progress}
+use Rattle.rule_body.specs.Prelude.{IsRule, AreRules}
+use Rattle.rule_form.specs.Prelude.{Progress, TextFault, RuleText, AreWritten, IsWritten, IsRuleText, written, text_of, State, Start, Between, IsFault, IsMemory, state_of, IsReached}
 use Rattle.rule_form.specs.declared.progress.Progress.TheVariants as progress
-use Rattle.rule_form.specs.declared.fault.TextFault.{TextFault}
 use Rattle.rule_form.specs.declared.fault.TextFault.TheVariants as fault
-use Rattle.rule_form.specs.Texts.{RuleText, AreWritten, IsWritten, IsRuleText, written, text_of}
-use Rattle.rule_form.specs.Machine.{State, Start, Between}
-use Rattle.rule_form.specs.Faults.{IsFault, IsMemory}
-use Rattle.rule_form.specs.Reached.{state_of, IsReached}
 use Rattle.rule_form.proofs.RuleGrammar.{rules, is-grammar}
 use Rattle.std.proofs.lemmas.List.{length-map}
 

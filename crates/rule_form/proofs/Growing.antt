@@ -9,18 +9,10 @@ use Rattle.ppc_isa.specs.declared.instr.Instr.{Instr}
 use Rattle.ppc_isa.specs.Legal.{IsWordOf}
 use Rattle.ppc_isa.specs.Locations.{locations_written}
 use Rattle.rule_body.specs.declared.goal.Guest.{Guest}
-use Rattle.rule_body.specs.Rows.{is_open, is_ending, is_plain, has_access}
-use Rattle.rule_body.specs.Numbers.{numbers, AreNumbered, highest}
-use Rattle.rule_body.specs.Templates.{AreGuests, IsWindow, IsBranching}
-use Rattle.rule_body.specs.Goals.{guests}
+use Rattle.rule_body.specs.Prelude.{is_open, is_ending, is_plain, has_access, numbers, AreNumbered, highest, AreGuests, IsWindow, IsBranching, guests, Template, accesses, IsHostLine, AreHostLines}
 use Rattle.line_text.proofs.Grammars.{all-append}
 use Rattle.rule_body.specs.declared.line.HostLine.{HostLine}
-use Rattle.rule_body.specs.Templates.{Template}
-use Rattle.rule_body.specs.Ops.{accesses}
-use Rattle.rule_body.specs.Lines.{IsHostLine}
-use Rattle.rule_body.specs.Bodies.{AreHostLines}
-use Rattle.rule_form.specs.Machine.{IsFront}
-use Rattle.rule_form.specs.Partial.{AccessAt, WrittenAt}
+use Rattle.rule_form.specs.Prelude.{IsFront, AccessAt, WrittenAt}
 use Rattle.rule_form.proofs.Windows.{one-instruction, one-window, window-less, ends, branching, not-branching, fold-max-append, numbers-append, count-append}
 
 pub guests-set : (ws : List ℕ) (fs : List Bool) (n w : ℕ) (f : Bool) → n < length ws → length fs ≡ length ws

@@ -3,18 +3,16 @@ use Rattle.std.proofs.Common.{◌≡◌, ℕ, suc, ◌+◌, ◌*◌, ◌<◌, �
 use Rattle.std.specs.List.{AllByRecursion}
 use Rattle.std.specs.Int.{w32, to_be_bytes}
 use Rattle.std.proofs.lemmas.Fmt.{first_decimal, decimal_injective}
-use Rattle.word_kit.specs.Formulas.{variable, IsLiteral}
-use Rattle.ia_codec.specs.Spelling.{spelling}
+use Rattle.word_kit.specs.Prelude.{variable, IsLiteral}
+use Rattle.ia_codec.specs.Prelude.{spelling}
 use Rattle.ia_codec.specs.declared.op.Op.{Op}
 use Rattle.line_text.proofs.Lines.{AreWords, snoc-same}
 use Rattle.rule_body.specs.declared.goal.Guest.{Guest}
 use Rattle.rule_body.specs.declared.line.Hole.{Hole}
 use Rattle.rule_body.specs.declared.line.Hole.TheVariants.{S, Z, H, N}
 use Rattle.rule_body.specs.declared.line.HostLine.{HostLine}
-use Rattle.rule_body.specs.Rules.{AreRising}
-use Rattle.rule_form.specs.Words.{letter, slots_word, hole_letter, hole_word, digit, take_word, literal_word}
-use Rattle.rule_form.specs.Texts.{Item, Title, Open, GuestLine, At, Dead, Host, Take, Clause, End, words_of}
-use Rattle.rule_form.specs.Machine.{IsItem, IsHoleWord, IsTakeWord}
+use Rattle.rule_body.specs.Prelude.{AreRising}
+use Rattle.rule_form.specs.Prelude.{letter, slots_word, hole_letter, hole_word, digit, take_word, literal_word, Item, Title, Open, GuestLine, At, Dead, Host, Take, Clause, End, words_of, IsItem, IsHoleWord, IsTakeWord}
 use Rattle.rule_form.proofs.Separate.{IsWord, word, word-cons, word-decimal, word-hexadecimal, words-free}
 use Rattle.rule_form.proofs.DeadNames.{word-dead, dead-same}
 use Rattle.rule_form.proofs.SpelledBytes.{word-same, op-same}

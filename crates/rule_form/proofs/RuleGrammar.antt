@@ -11,16 +11,10 @@ use Rattle.ppc_isa.specs.Word.{word}
 use Rattle.line_text.proofs.Grammars.{Grammar, IsGrammar, run, append-nil, all-append, run-append}
 use Rattle.rule_body.specs.declared.goal.Guest.{Guest}
 use Rattle.rule_body.specs.declared.line.HostLine.{HostLine}
-use Rattle.rule_body.specs.Numbers.{numbers, highest}
-use Rattle.rule_body.specs.Templates.{Template, AreGuests, IsWindow, IsPlaced, IsTemplate, slot_count}
+use Rattle.rule_body.specs.Prelude.{numbers, highest, Template, AreGuests, IsWindow, IsPlaced, IsTemplate, slot_count, IsHostLine, IsHoleFor, AreHostLines, IsTake, AreRising, accesses}
 use Rattle.ia_codec.specs.declared.op.Op.{Op}
 use Rattle.rule_body.specs.declared.line.Hole.{Hole}
-use Rattle.rule_body.specs.Lines.{IsHostLine, IsHoleFor}
-use Rattle.rule_body.specs.Bodies.{AreHostLines, IsTake}
-use Rattle.rule_body.specs.Rules.{AreRising}
-use Rattle.rule_body.specs.Ops.{accesses}
-use Rattle.rule_form.specs.Texts.{Item, Title, Open, GuestLine, At, Dead, Host, Take, Clause, End, RuleText, IsWritten, AreWritten, opened, items_of, words_of}
-use Rattle.rule_form.specs.Machine.{IsItem, IsHoleWord, IsTakeWord, State, Start, Between, InGuests, InDead, InHosts, InClauses, next, shown, HaveRoom, IsFront, IsGood}
+use Rattle.rule_form.specs.Prelude.{Item, Title, Open, GuestLine, At, Dead, Host, Take, Clause, End, RuleText, IsWritten, AreWritten, opened, items_of, words_of, IsItem, IsHoleWord, IsTakeWord, State, Start, Between, InGuests, InDead, InHosts, InClauses, next, shown, HaveRoom, IsFront, IsGood}
 use Rattle.rule_form.proofs.ItemWords.{are-words, words-same}
 use Rattle.rule_form.proofs.Windows.{count-append, window-less, highest-few, branching, not-branching, ends, word-below}
 

@@ -5,7 +5,7 @@ use Rattle.std.specs.Int.{w32, to_be_bytes, from_be_bytes}
 use Rattle.std.proofs.lemmas.Nat.{from_be_bytes-to_be_bytes_4}
 use Rattle.hex.specs.Hex.{encode_lower, decode_of}
 use Rattle.hex.proofs.HexLemmas.{decode_of-encode_lower}
-use Rattle.ia_codec.specs.Spelling.{spelling, IsInProfile, IsOperand, IsMemory, IsReg, IsByte, IsSum, modrm, dword, alu_number, shift_number, unary_number, condition_number}
+use Rattle.ia_codec.specs.Prelude.{spelling, IsInProfile, IsOperand, IsMemory, IsReg, IsByte, IsSum, modrm, dword, alu_number, shift_number, unary_number, condition_number}
 use Rattle.ia_codec.specs.declared.op.Operand.{Operand}
 use Rattle.ia_codec.specs.declared.op.Operand.TheVariants.{Reg, Abs, Base, Pair}
 use Rattle.ia_codec.specs.declared.op.AluOp.{AluOp}

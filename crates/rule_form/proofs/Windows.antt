@@ -11,9 +11,7 @@ use Rattle.ppc_isa.specs.Legal.{IsWordOf, layout}
 use Rattle.ppc_isa.specs.Word.{Field, Fit, word, width}
 use Rattle.ppc_isa.proofs.ReadWords.{read_legal}
 use Rattle.rule_body.specs.declared.goal.Guest.{Guest}
-use Rattle.rule_body.specs.Rows.{is_ending, has_access}
-use Rattle.rule_body.specs.Numbers.{numbers, AreNumbered, highest}
-use Rattle.rule_body.specs.Templates.{IsGuest, AreGuests, AreStraight, IsWindow, IsBranching}
+use Rattle.rule_body.specs.Prelude.{is_ending, has_access, numbers, AreNumbered, highest, IsGuest, AreGuests, AreStraight, IsWindow, IsBranching}
 
 append-nil : {A : Type 0} (xs : List A) → xs ++ [] ≡ xs
 append-nil [] = refl

@@ -6,10 +6,10 @@ use Rattle.std.proofs.Math.Seq.{take-length, take-append_seam}
 use Rattle.hex.specs.Hex.{encode_lower, decode_sized, lower_digits}
 use Rattle.hex.specs.declared.error.FromHexError.{FromHexError}
 use Rattle.hex.proofs.HexLemmas.{length-encode_with, decode_sized-encode_lower}
-use Rattle.ia_codec.specs.Spelling.{spelling, IsInProfile, IsSpelt}
+use Rattle.ia_codec.specs.Prelude.{spelling, IsInProfile, IsSpelt}
 use Rattle.ia_codec.specs.declared.op.Op.{Op}
 use Rattle.ia_codec.proofs.Lengths.{length-spelling}
-use Rattle.rule_form.specs.Words.{letter, slots_word}
+use Rattle.rule_form.specs.Prelude.{letter, slots_word}
 use Rattle.rule_form.proofs.SpelledBytes.{spelled-bytes}
 
 -- Letters.

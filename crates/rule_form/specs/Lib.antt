@@ -7,3 +7,4 @@ pub mod Names
 pub mod Partial
 pub mod Reached
 pub mod Faults
+pub mod Prelude

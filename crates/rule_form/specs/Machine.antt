@@ -2,13 +2,11 @@
 use Rattle.std.specs.Prelude.{ℕ, ◌<◌, ◌≤◌, ◌^◌, ◌++◌, Bool, List, [], ◌∷◌, length, map, Option, Some, None}
 use Rattle.std.specs.List.{AllByRecursion}
 use Rattle.ppc_isa.specs.declared.instr.Instr.{Instr}
-use Rattle.ia_codec.specs.Spelling.{IsInProfile}
+use Rattle.ia_codec.specs.Prelude.{IsInProfile}
 use Rattle.rule_body.specs.declared.goal.Guest.{Guest}
 use Rattle.rule_body.specs.declared.line.Hole.{Hole}
 use Rattle.rule_body.specs.declared.line.HostLine.{HostLine}
-use Rattle.rule_body.specs.Templates.{Template, IsWindow, IsPlaced, IsTemplate}
-use Rattle.rule_body.specs.Bodies.{AreHostLines}
-use Rattle.rule_body.specs.Rules.{AreRising}
+use Rattle.rule_body.specs.Prelude.{Template, IsWindow, IsPlaced, IsTemplate, AreHostLines, AreRising}
 use Rattle.rule_form.specs.Texts.{Item, Title, Open, GuestLine, At, Dead, Host, Take, Clause, End, RuleText, IsWritten, AreWritten, opened, items_of}
 
 -- the hole's word is a number of a byte

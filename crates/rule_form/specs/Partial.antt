@@ -7,11 +7,7 @@ use Rattle.ppc_isa.specs.Locations.{locations_written}
 use Rattle.rule_body.specs.declared.goal.Goal.{Goal}
 use Rattle.rule_body.specs.declared.goal.Guest.{Guest}
 use Rattle.rule_body.specs.declared.body.Body.{Body}
-use Rattle.rule_body.specs.Rows.{has_access}
-use Rattle.rule_body.specs.Numbers.{numbers, highest}
-use Rattle.rule_body.specs.Templates.{IsWindow}
-use Rattle.rule_body.specs.Goals.{guests_of, template_of}
-use Rattle.rule_body.specs.Bodies.{AreHostLines, lines_of, no_line}
+use Rattle.rule_body.specs.Prelude.{has_access, numbers, highest, IsWindow, guests_of, template_of, AreHostLines, lines_of, no_line}
 
 -- the words so far, and how many parameters they have
 pub record IsPartial (goal : Goal) : Type 0 where

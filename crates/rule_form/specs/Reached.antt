@@ -2,12 +2,10 @@
 use Rattle.std.specs.Prelude.{map}
 use Rattle.rule_form.specs.declared.progress.Progress.{Progress}
 use Rattle.rule_form.specs.declared.progress.Progress.TheVariants as progress
-use Rattle.rule_body.specs.Goals.{guests_of, template_of, IsTidy, IsGoal}
-use Rattle.rule_body.specs.Bodies.{lines_of, IsBody}
+use Rattle.rule_body.specs.Prelude.{guests_of, template_of, IsTidy, IsGoal, lines_of, IsBody, IsRule}
 use Rattle.rule_form.specs.Texts.{written}
 use Rattle.rule_form.specs.Machine.{State, Start, Between, InGuests, InDead, InHosts, InClauses}
 use Rattle.rule_form.specs.Partial.{IsPartial, IsPartialBody}
-use Rattle.rule_body.specs.Rules.{IsRule}
 use Rattle.std.specs.List.{AllByRecursion}
 
 abbrev pub state_of : Progress → State

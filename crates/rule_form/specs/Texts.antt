@@ -3,15 +3,12 @@ use Rattle.std.specs.Prelude.{◌≡◌, ℕ, ◌≤◌, ◌++◌, if◌then◌e
 use Rattle.std.specs.List.{AllByRecursion, flat_map}
 use Rattle.std.specs.Int.{w32, to_be_bytes}
 use Rattle.hex.specs.Hex.{encode_lower}
-use Rattle.ia_codec.specs.Spelling.{spelling}
+use Rattle.ia_codec.specs.Prelude.{spelling}
 use Rattle.line_text.specs.Lines.{line_of}
 use Rattle.rule_body.specs.declared.goal.Guest.{Guest}
 use Rattle.rule_body.specs.declared.line.HostLine.{HostLine}
 use Rattle.rule_body.specs.declared.rule.Rule.{Rule}
-use Rattle.rule_body.specs.Templates.{Template, IsTemplate}
-use Rattle.rule_body.specs.Goals.{template_of}
-use Rattle.rule_body.specs.Bodies.{AreHostLines, IsTake, lines_of}
-use Rattle.rule_body.specs.Rules.{AreRising}
+use Rattle.rule_body.specs.Prelude.{Template, IsTemplate, template_of, AreHostLines, IsTake, lines_of, AreRising}
 use Rattle.rule_form.specs.Words.{slots_word, dead_word, hole_word, take_word, literal_word}
 
 -- what a line says

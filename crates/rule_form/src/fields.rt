@@ -2,7 +2,7 @@
 
 ghost use Rattle.std.specs.Prelude.{◌≡◌, ◌≢◌, ◌<◌, ◌≤◌, ◌^◌, ◌∷◌, [], ℕ, List, Bool, Option, length, take, map, MatchOption, codes, if◌then◌else◌};
 ghost use Rattle.hex.specs.Hex.{encode_lower};
-ghost use Rattle.ia_codec.specs.Spelling.{spelling, IsInProfile};
+ghost use Rattle.ia_codec.specs.Prelude.{spelling, IsInProfile};
 ghost use Rattle.ia_codec.specs.declared.op.Op.{Op as TheOp};
 ghost use Rattle.rule_body.specs.declared.line.Hole.{Hole as TheHole};
 ghost use Rattle.rule_form.specs.Words.{letter, slots_word, hole_letter, hole_word, digit, take_word};

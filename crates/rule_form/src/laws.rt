@@ -3,7 +3,7 @@
 ghost use Rattle.std.specs.Prelude.{◌≡◌, ℕ, List};
 ghost use Rattle.line_text.specs.FirstBad.{IsFirstBad};
 ghost use Rattle.rule_body.specs.declared.rule.Rule.{Rule};
-ghost use Rattle.rule_body.specs.Rules.{IsRule};
+ghost use Rattle.rule_body.specs.Prelude.{IsRule};
 ghost use Rattle.rule_form.specs.Texts.{RuleText, AreWritten, IsRuleText, text_of, written, HasRoom};
 
 /// No text is of two lists of rules.

@@ -1,7 +1,7 @@
 //! What lines say.
 
 ghost use Rattle.std.specs.Prelude.{◌≡◌, ◌≢◌, ◌<◌, ◌≤◌, ◌^◌, ◌↔◌, ◌++◌, ◌∷◌, [], ℕ, ℤ, Bool, List, Option, MatchOption, IfOk, IsTrue, length, map, take};
-ghost use Rattle.ia_codec.specs.Spelling.{IsInProfile};
+ghost use Rattle.ia_codec.specs.Prelude.{IsInProfile};
 ghost use Rattle.line_text.specs.Lines.{line_of};
 ghost use Rattle.rule_body.specs.declared.goal.Guest.{Guest as TheGuest};
 ghost use Rattle.rule_body.specs.declared.line.HostLine.{HostLine as TheLine};

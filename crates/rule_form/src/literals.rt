@@ -2,8 +2,8 @@
 
 ghost use Rattle.std.specs.Prelude.{◌≡◌, ◌≢◌, ◌<◌, ◌^◌, ◌↔◌, ◌++◌, ◌∷◌, [], ℕ, ℤ, List, MatchOption, IfOk, IsTrue, map, decimal, codes};
 ghost use Rattle.std.specs.List.{AllByRecursion};
-ghost use Rattle.word_kit.specs.Formulas.{IsLiteral, variable};
-ghost use Rattle.rule_body.specs.Rules.{AreRising};
+ghost use Rattle.word_kit.specs.Prelude.{IsLiteral, variable};
+ghost use Rattle.rule_body.specs.Prelude.{AreRising};
 ghost use Rattle.rule_form.specs.Words.{literal_word};
 ghost use Rattle.rule_form.specs.Texts.{Clause, words_of};
 

@@ -1,7 +1,7 @@
 //! From text to rules.
 
 ghost use Rattle.std.specs.Prelude.{◌≡◌, ◌<◌, ◌-◌, ◌^◌, List, IfOk, IfErr, MatchResult, length, map};
-ghost use Rattle.rule_body.specs.Rules.{AreRules};
+ghost use Rattle.rule_body.specs.Prelude.{AreRules};
 ghost use Rattle.rule_form.specs.Texts.{RuleText, AreWritten, written, text_of};
 ghost use Rattle.rule_form.specs.Faults.{IsFault, IsMemory};
 

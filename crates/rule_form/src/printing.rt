@@ -2,10 +2,9 @@
 
 ghost use Rattle.std.specs.Prelude.{◌≡◌, ◌≤◌, ◌++◌, ◌∷◌, [], OnOk, IfOk, map, List, ℤ, codes, if◌then◌else◌};
 ghost use Rattle.std.specs.List.{AllByRecursion, flat_map};
-ghost use Rattle.ia_codec.specs.Spelling.{IsInProfile};
+ghost use Rattle.ia_codec.specs.Prelude.{IsInProfile};
 ghost use Rattle.line_text.specs.Lines.{line_of};
-ghost use Rattle.rule_body.specs.Goals.{guests_of, template_of};
-ghost use Rattle.rule_body.specs.Rules.{AreRules, IsRule};
+ghost use Rattle.rule_body.specs.Prelude.{guests_of, template_of, AreRules, IsRule};
 ghost use Rattle.rule_form.specs.Words.{literal_word};
 ghost use Rattle.rule_form.specs.Texts.{GuestLine, At, Dead, Host, Take, Clause, End, words_of, front_of, written, opened, text_of};
 ghost use Rattle.rule_form.specs.Machine.{IsTakeWord};

@@ -1,9 +1,7 @@
 //! What is known after some lines of a rule text.
 
 ghost use Rattle.std.specs.Prelude.{◌≡◌, ◌<◌, ◌++◌, ◌∷◌, [], ◌↔◌, IsTrue, IfOk, MatchOption, count_by};
-ghost use Rattle.rule_body.specs.Goals.{IsGoal, template_of};
-ghost use Rattle.rule_body.specs.Ops.{accesses as access};
-ghost use Rattle.rule_body.specs.Bodies.{AreHostLines, lines_of};
+ghost use Rattle.rule_body.specs.Prelude.{IsGoal, template_of, accesses as access, AreHostLines, lines_of};
 ghost use Rattle.rule_form.specs.Machine.{State, next, IsGood, IsItem};
 ghost use Rattle.rule_form.specs.Said.{item_of, IsLine};
 ghost use Rattle.rule_form.specs.Partial.{IsPartialBody};

@@ -2,8 +2,7 @@
 
 ghost use Rattle.std.specs.Prelude.{◌≡◌, ◌↔◌, ◌<◌, ◌≤◌, ◌||◌, ◌++◌, ◌∷◌, [], IsTrue, MatchOption, max, fold, if◌then◌else◌};
 ghost use Rattle.ppc_isa.specs.Locations.{base};
-ghost use Rattle.rule_body.specs.Rows.{is_plain as plain, is_open as open_, is_ending as ending, has_access as access};
-ghost use Rattle.rule_body.specs.Numbers.{numbers, rotated, AreNumbered};
+ghost use Rattle.rule_body.specs.Prelude.{is_plain as plain, is_open as open_, is_ending as ending, has_access as access, numbers, rotated, AreNumbered};
 
 use ppc_isa::{ArithmeticOp, ImmediateOp, Instr, RotateOp};
 use rule_body::is_ending;

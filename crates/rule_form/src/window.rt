@@ -1,9 +1,7 @@
 //! Goals whose lines are read one by one.
 
 ghost use Rattle.std.specs.Prelude.{◌≡◌, ◌⊎◌, ◌↔◌, ◌<◌, ◌≤◌, ◌^◌, ◌+◌, ◌++◌, ◌∷◌, [], ℕ, IsTrue, IsBitSet, MatchOption, take, slice_set};
-ghost use Rattle.rule_body.specs.Rows.{has_access as access};
-ghost use Rattle.rule_body.specs.Templates.{IsBranching, IsPlaced, IsTemplate, named as named_of};
-ghost use Rattle.rule_body.specs.Goals.{guests_of, template_of, IsTidy, IsGoal};
+ghost use Rattle.rule_body.specs.Prelude.{has_access as access, IsBranching, IsPlaced, IsTemplate, named as named_of, guests_of, template_of, IsTidy, IsGoal};
 ghost use Rattle.rule_form.specs.Machine.{IsFront};
 ghost use Rattle.rule_form.specs.Partial.{IsPartial, AccessAt, WrittenAt};
 ghost use Rattle.rule_form.specs.Slots.{AreSlots};

@@ -1,16 +1,10 @@
 -- What the grammar of rules says of the words of a rule where it is laid. This project's own.
 use Rattle.std.proofs.Common.{◌≡◌, ℕ, suc, ◌+◌, ◌-◌, ◌<◌, ◌&&◌, ◌||◌, ◌==◌, not, Bool, true, false, if◌then◌else◌, ◌⊎◌, inl, inr, ⊎_elim, List, [], ◌∷◌, length, slice_get, Option, Some, None, refl, sym, ap, ◌∙◌, subst, arith}
-use Rattle.ppc_isa.specs.Legal.{IsWordOf, HasOneInstruction, bo_0, bo_2}
-use Rattle.ppc_isa.specs.Instruction.{Instr, Immediate, LogicImmediate, Load, Store, LoadUpdate, StoreUpdate, CompareImmediate, Rotate, Arithmetic, ArithmeticUnary, Logic, ShiftImmediate, LogicUnary, Compare, MoveFromCr, MoveToCr, MoveFromSpr, MoveToSpr, Sync, LoadIndexed, StoreIndexed, LoadIndexedUpdate, StoreIndexedUpdate, MoveCrField, CrLogic, Isync, BranchConditional, ArithmeticOp, Add, Addc, Adde, Subf, Subfc, Subfe, Mullw, Mulhw, Mulhwu, Divw, Divwu}
+use Rattle.machines.specs.Prelude.{IsWordOf, HasOneInstruction, bo_0, bo_2, Instr, Immediate, LogicImmediate, Load, Store, LoadUpdate, StoreUpdate, CompareImmediate, Rotate, Arithmetic, ArithmeticUnary, Logic, ShiftImmediate, LogicUnary, Compare, MoveFromCr, MoveToCr, MoveFromSpr, MoveToSpr, Sync, LoadIndexed, StoreIndexed, LoadIndexedUpdate, StoreIndexedUpdate, MoveCrField, CrLogic, Isync, BranchConditional, ArithmeticOp, Add, Addc, Adde, Subf, Subfc, Subfe, Mullw, Mulhw, Mulhwu, Divw, Divwu}
 use Rattle.rule_body.specs.declared.goal.Guest.{Guest}
 use Rattle.rule_body.specs.declared.rule.Rule.{Rule}
-use Rattle.rule_body.specs.Rows.{is_plain, is_ending, is_open}
-use Rattle.rule_body.specs.Templates.{IsGuest, AreGuests, AreStraight, IsWindow}
-use Rattle.rule_body.specs.Goals.{guests_of}
-use Rattle.rule_body.specs.Bodies.{IsTake}
-use Rattle.rule_body.specs.Rules.{IsRule}
-use Rattle.rule_meaning.specs.Matches.{Match}
-use Rattle.rule_meaning.specs.LaidWords.{bound, filled, laid_words}
+use Rattle.rule_body.specs.Prelude.{is_plain, is_ending, is_open, IsGuest, AreGuests, AreStraight, IsWindow, guests_of, IsTake, IsRule}
+use Rattle.rule_meaning.specs.Prelude.{Match, bound, filled, laid_words}
 use Rattle.rule_meaning.proofs.Rows.{is_fork}
 use Rattle.rule_meaning.proofs.Passing.{AreRuleWords}
 

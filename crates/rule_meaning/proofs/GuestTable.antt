@@ -1,12 +1,8 @@
 -- The table of fields is the machine's: a row reads the registers of its fields, and puts what it writes. This project's own.
 use Rattle.std.proofs.Common.{◌≡◌, ℕ, Bool, true, false, cond, ◌==◌, not, ◌||◌, refl, ap, arith}
 use Rattle.std.proofs.lemmas.Bool.Decides.{nat_tests}
-use Rattle.runs.specs.Machine.{Goes}
-use Rattle.ppc_isa.specs.Effect.{Effect}
-use Rattle.machines.specs.Memory.{update}
-use Rattle.machines.specs.Guest.{lr, ctr, puts_xer, put_xer, at_next}
-use Rattle.ppc_isa.specs.Instruction.{Immediate, LogicImmediate, Load, Store, LoadUpdate, StoreUpdate, CompareImmediate, Rotate, Arithmetic, ArithmeticUnary, Logic, ShiftImmediate, LogicUnary, Compare, MoveFromCr, MoveToCr, MoveFromSpr, MoveToSpr, Sync, LoadIndexed, StoreIndexed, LoadIndexedUpdate, StoreIndexedUpdate, MoveCrField, CrLogic, Isync, Addi, Addis, Addic, AddicRecord, Subfic, Mulli, Ori, Oris, Xori, Xoris, Andi, Andis, Cmpi, Cmpli, Rlwinm, Rlwnm, Rlwimi, Lwz, Lbz, Lhz, Lha, Lwzu, Lbzu, Lhzu, Lhau, Lwzx, Lbzx, Lhzx, Lhax, Lwbrx, Lhbrx, Lwzux, Lbzux, Lhzux, Lhaux}
-use Rattle.rule_meaning.specs.Fields.{RowsReadFields, RowsPutFields, AccessesPutFields, BranchesPutFields, LoadsHaveWidths}
+use Rattle.machines.specs.Prelude.{Goes, Effect, update, lr, ctr, puts_xer, put_xer, at_next, Immediate, LogicImmediate, Load, Store, LoadUpdate, StoreUpdate, CompareImmediate, Rotate, Arithmetic, ArithmeticUnary, Logic, ShiftImmediate, LogicUnary, Compare, MoveFromCr, MoveToCr, MoveFromSpr, MoveToSpr, Sync, LoadIndexed, StoreIndexed, LoadIndexedUpdate, StoreIndexedUpdate, MoveCrField, CrLogic, Isync, Addi, Addis, Addic, AddicRecord, Subfic, Mulli, Ori, Oris, Xori, Xoris, Andi, Andis, Cmpi, Cmpli, Rlwinm, Rlwnm, Rlwimi, Lwz, Lbz, Lhz, Lha, Lwzu, Lbzu, Lhzu, Lhau, Lwzx, Lbzx, Lhzx, Lhax, Lwbrx, Lhbrx, Lwzux, Lbzux, Lhzux, Lhaux}
+use Rattle.rule_meaning.specs.Prelude.{RowsReadFields, RowsPutFields, AccessesPutFields, BranchesPutFields, LoadsHaveWidths}
 use Rattle.rule_meaning.proofs.Rows.{immediate_kind, arithmetic_kind, arithmetic_unary_kind, logic_kind, logic_unary_kind, compare_kind, compare_immediate_kind, store_kind, store_update_kind, store_indexed_kind, store_indexed_update_kind}
 
 one_of : (spr : ℕ) → (spr == 1) ≡ true → (spr == 8) ≡ false

@@ -1,12 +1,8 @@
 -- The table of shapes is the machine's: an op does what its sources, its row and its destination say. This project's own.
 use Rattle.std.proofs.Common.{refl}
-use Rattle.ia_codec.specs.declared.op.AluOp.TheVariants.{Add, Or, Adc, Sbb, And, Sub, Xor, Cmp}
-use Rattle.ia_codec.specs.declared.op.ShiftOp.TheVariants.{Rol, Ror, Shl, Shr, Sar}
-use Rattle.ia_codec.specs.declared.op.ExtendOp.TheVariants.{MovzxByte, MovzxHalf, MovsxByte, MovsxHalf}
-use Rattle.ia_codec.specs.declared.op.UnaryOp.TheVariants.{Not, Neg, Mul, Imul1}
-use Rattle.ia_codec.specs.declared.op.Op.TheVariants.{AluTo, AluFrom, AluImm, TestReg, TestImm, Unary, Imul, MovTo, MovFrom, MovImm, MovToImm, MovHalfTo, MovByteTo, MovByteFrom, Shift, ShiftByCl, Lea, Extend, Bswap, Set, Cmov, Bsr, Cdq}
-use Rattle.rule_body.specs.Ops.{is_straight}
-use Rattle.rule_meaning.specs.Shapes.{OpsHaveShapes, OpsLeaveAtMost}
+use Rattle.machines.specs.Prelude.{Add, Or, Adc, Sbb, And, Sub, Xor, Cmp, Rol, Ror, Shl, Shr, Sar, MovzxByte, MovzxHalf, MovsxByte, MovsxHalf, Not, Neg, Mul, Imul1, AluTo, AluFrom, AluImm, TestReg, TestImm, Unary, Imul, MovTo, MovFrom, MovImm, MovToImm, MovHalfTo, MovByteTo, MovByteFrom, Shift, ShiftByCl, Lea, Extend, Bswap, Set, Cmov, Bsr, Cdq}
+use Rattle.rule_body.specs.Prelude.{is_straight}
+use Rattle.rule_meaning.specs.Prelude.{OpsHaveShapes, OpsLeaveAtMost}
 
 pub ops_have_shapes : OpsHaveShapes
 unfolding is_straight

@@ -2,17 +2,11 @@
 -- project's own.
 use Rattle.std.proofs.Common.{◌≡◌, ℕ, zero, suc, ◌+◌, Bool, true, false, cond, ⊎_elim, List, [], ◌∷◌, Contains, refl, sym, ap, ◌∙◌, subst}
 use Rattle.std.proofs.lemmas.List.Elements.{Contains-append_cases}
-use Rattle.space.specs.declared.call.End.TheVariants.{Outside}
-use Rattle.runs.specs.Machine.{Outcome, Goes, Asks, Ends}
-use Rattle.ppc_isa.specs.declared.instr.Instr.{Instr}
-use Rattle.machines.specs.Memory.{each_byte, Rights}
-use Rattle.machines.specs.Guest.{Guest, effect_of, guest_acts, behind}
-use Rattle.symbolic_tiles.specs.Row.{loaded, stored}
-use Rattle.symbolic_tiles.specs.Straight.{IsStraight}
-use Rattle.simulation.specs.Windows.{then_row, rows_of, behind_all, IsQuiet, IsLinked}
-use Rattle.rule_meaning.specs.Windows.{everywhere, behind_row, loads_of, stores_of, taken_of}
-use Rattle.rule_body.specs.Rows.{is_plain}
-use Rattle.rule_meaning.specs.Laid.{target_of}
+use Rattle.machines.specs.Prelude.{Outside, Outcome, Goes, Asks, Ends, Instr, each_byte, Rights, Guest, effect_of, guest_acts, behind}
+use Rattle.symbolic_tiles.specs.Prelude.{loaded, stored, IsStraight}
+use Rattle.simulation.specs.Prelude.{then_row, rows_of, behind_all, IsQuiet, IsLinked}
+use Rattle.rule_meaning.specs.Prelude.{everywhere, behind_row, loads_of, stores_of, taken_of, target_of}
+use Rattle.rule_body.specs.Prelude.{is_plain}
 use Rattle.row_laws.proofs.Lists.{none_in}
 use Rattle.symbolic_tiles.proofs.Straight.{all_in_span}
 use Rattle.rule_meaning.proofs.Rows.{is_fork, RowShape, calm, loading, storing, plain_shape, fork_shape}

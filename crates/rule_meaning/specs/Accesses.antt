@@ -1,16 +1,7 @@
 -- What ops access of the guest's memory. This project's own.
 use Rattle.std.specs.Prelude.{◌≡◌, ℕ, ◌+◌, ◌*◌, ◌%◌, ◌^◌, List, [], ◌∷◌, ◌++◌}
-use Rattle.ppc_isa.specs.declared.map.Map.{Map}
-use Rattle.ia_codec.specs.declared.op.Op.{Op}
-use Rattle.ia_codec.specs.declared.op.Op.TheVariants.{MovTo, MovFrom, MovToImm, MovHalfTo, MovByteTo, MovByteFrom, Extend}
-use Rattle.ia_codec.specs.declared.op.Operand.{Operand}
-use Rattle.ia_codec.specs.declared.op.Operand.TheVariants.{Base, Pair}
-use Rattle.runs.specs.Machine.{Outcome, Goes, Asks, Ends}
-use Rattle.machines.specs.Memory.{Rights}
-use Rattle.machines.specs.Guest.{Guest}
-use Rattle.machines.specs.Host.{Choice, Core, Host, extend_size}
-use Rattle.symbolic_tiles.specs.Perform.{op_outcome}
-use Rattle.symbolic_tiles.specs.Row.{Window, TilePrecondition, span}
+use Rattle.machines.specs.Prelude.{Map, Op, MovTo, MovFrom, MovToImm, MovHalfTo, MovByteTo, MovByteFrom, Extend, Operand, Base, Pair, Outcome, Goes, Asks, Ends, Rights, Guest, Choice, Core, Host, extend_size}
+use Rattle.symbolic_tiles.specs.Prelude.{op_outcome, Window, TilePrecondition, span}
 
 -- the addresses of so many bytes at an operand that is a sum of registers
 abbrev pub summed : ℕ → Operand → (ℕ → ℕ) → List ℕ

@@ -1,29 +1,8 @@
 -- Which registers the rows of a window read and write, and how many bytes they load: the fields of the machine's rows, as a
 -- table. This project's own.
 use Rattle.std.specs.Prelude.{◌≡◌, ℕ, ◌*◌, ◌==◌, if◌then◌else◌, Bool, true, false, not, ◌||◌, Option, Some, None}
-use Rattle.word_kit.specs.Words.{sign_extended}
-use Rattle.space.specs.declared.call.End.TheVariants.{Outside}
-use Rattle.runs.specs.Machine.{Goes, Ends}
-use Rattle.ppc_isa.specs.declared.instr.Instr.{Instr}
-use Rattle.ppc_isa.specs.declared.instr.Instr.TheVariants.{Immediate, LogicImmediate, Load, Store, LoadUpdate, StoreUpdate, TrapImmediate, CompareImmediate, Rotate, BranchConditional, Arithmetic, ArithmeticUnary, Logic, ShiftImmediate, LogicUnary, Compare, Trap, MoveFromCr, MoveToCr, MoveFromSpr, MoveToSpr, LoadIndexed, StoreIndexed, LoadIndexedUpdate, StoreIndexedUpdate, MoveCrField, CrLogic}
-use Rattle.ppc_isa.specs.declared.instr.RotateOp.TheVariants.{Rlwnm}
-use Rattle.ppc_isa.specs.declared.instr.ImmediateOp.TheVariants.{Addis}
-use Rattle.ppc_isa.specs.declared.instr.LogicImmediateOp.TheVariants.{Ori, Xori, Andi}
-use Rattle.ppc_isa.specs.declared.instr.CompareImmediateOp.TheVariants.{Cmpli}
-use Rattle.ppc_isa.specs.declared.instr.LoadOp.{LoadOp}
-use Rattle.ppc_isa.specs.declared.instr.LoadOp.TheVariants.{Lwz, Lbz, Lhz, Lha}
-use Rattle.ppc_isa.specs.declared.instr.LoadUpdateOp.{LoadUpdateOp}
-use Rattle.ppc_isa.specs.declared.instr.LoadUpdateOp.TheVariants.{Lwzu, Lbzu, Lhzu, Lhau}
-use Rattle.ppc_isa.specs.declared.instr.LoadIndexedOp.{LoadIndexedOp}
-use Rattle.ppc_isa.specs.declared.instr.LoadIndexedOp.TheVariants.{Lwzx, Lbzx, Lhzx, Lhax, Lwbrx, Lhbrx}
-use Rattle.ppc_isa.specs.declared.instr.LoadIndexedUpdateOp.{LoadIndexedUpdateOp}
-use Rattle.ppc_isa.specs.declared.instr.LoadIndexedUpdateOp.TheVariants.{Lwzux, Lbzux, Lhzux, Lhaux}
-use Rattle.ppc_isa.specs.Locations.{immediate_carries, immediate_records, carry_out, unary_carry, logic_immediate_records, logic_carries}
-use Rattle.ppc_isa.specs.Effect.{Effect, GuestValues, LoadAccess}
-use Rattle.ppc_isa.specs.Rows.{guest_row}
-use Rattle.machines.specs.Memory.{Rights, update, store_big, each_byte}
-use Rattle.machines.specs.Guest.{Guest, lr, ctr, puts_cr, puts_xer, branches, at_next, guest_acts, value_a, value_b, value_s}
-use Rattle.rule_body.specs.Rows.{is_plain, has_access}
+use Rattle.machines.specs.Prelude.{sign_extended, Outside, Goes, Ends, Instr, Immediate, LogicImmediate, Load, Store, LoadUpdate, StoreUpdate, TrapImmediate, CompareImmediate, Rotate, BranchConditional, Arithmetic, ArithmeticUnary, Logic, ShiftImmediate, LogicUnary, Compare, Trap, MoveFromCr, MoveToCr, MoveFromSpr, MoveToSpr, LoadIndexed, StoreIndexed, LoadIndexedUpdate, StoreIndexedUpdate, MoveCrField, CrLogic, Rlwnm, Addis, Ori, Xori, Andi, Cmpli, LoadOp, Lwz, Lbz, Lhz, Lha, LoadUpdateOp, Lwzu, Lbzu, Lhzu, Lhau, LoadIndexedOp, Lwzx, Lbzx, Lhzx, Lhax, Lwbrx, Lhbrx, LoadIndexedUpdateOp, Lwzux, Lbzux, Lhzux, Lhaux, immediate_carries, immediate_records, carry_out, unary_carry, logic_immediate_records, logic_carries, Effect, GuestValues, LoadAccess, guest_row, Rights, update, store_big, each_byte, Guest, lr, ctr, puts_cr, puts_xer, branches, at_next, guest_acts, value_a, value_b, value_s}
+use Rattle.rule_body.specs.Prelude.{is_plain, has_access}
 use Rattle.rule_meaning.specs.Laid.{target_at}
 
 -- the register of bits 11 to 15

@@ -1,14 +1,8 @@
 -- Where a rule matches. This project's own.
 use Rattle.std.specs.Prelude.{◌≡◌, ℕ, Bool, true, List, [], ◌∷◌}
-use Rattle.ppc_isa.specs.declared.instr.Instr.{Instr}
-use Rattle.ppc_isa.specs.declared.instr.Instr.TheVariants.{BranchConditional}
-use Rattle.ppc_isa.specs.declared.map.Map.{Map}
-use Rattle.ppc_isa.specs.Legal.{IsWordOf}
-use Rattle.ppc_isa.specs.Map.{IsMap}
-use Rattle.machines.specs.Guest.{behind, branch_target}
+use Rattle.machines.specs.Prelude.{Instr, BranchConditional, Map, IsWordOf, IsMap, behind, branch_target}
 use Rattle.rule_body.specs.declared.rule.Rule.{Rule}
-use Rattle.rule_body.specs.Templates.{IsWindow}
-use Rattle.rule_body.specs.Goals.{guests_of, template_of}
+use Rattle.rule_body.specs.Prelude.{IsWindow, guests_of, template_of}
 use Rattle.rule_meaning.specs.Matches.{Match, IsMatch}
 use Rattle.rule_meaning.specs.LaidWords.{laid_words}
 use Rattle.rule_meaning.specs.Sound.{dead_of}

@@ -7,3 +7,4 @@ pub mod Sound
 pub mod Laid
 pub mod Fields
 pub mod Shapes
+pub mod Prelude

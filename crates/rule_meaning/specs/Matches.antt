@@ -1,15 +1,10 @@
 -- What a place where a rule is laid gives it. This project's own.
 use Rattle.std.specs.Prelude.{◌≡◌, ◌≢◌, ℕ, ◌+◌, ◌*◌, ◌-◌, ◌%◌, ◌^◌, ◌<◌, ◌==◌, if◌then◌else◌, Bool, true, false, List, take, length, slice_get, Option, Some, None}
-use Rattle.word_kit.specs.Words.{sign_extended}
-use Rattle.ppc_isa.specs.declared.instr.Instr.{Instr}
-use Rattle.ppc_isa.specs.declared.instr.Instr.TheVariants.{Immediate, Load, Store, LoadIndexed, StoreIndexed}
-use Rattle.ppc_isa.specs.declared.instr.ImmediateOp.TheVariants.{Addi, Addis}
-use Rattle.ppc_isa.specs.declared.map.Map.{Map}
-use Rattle.reg_map.specs.Place.{slot_of}
-use Rattle.ia_codec.specs.Registers.{ebx, esi, edi}
+use Rattle.machines.specs.Prelude.{sign_extended, Instr, Immediate, Load, Store, LoadIndexed, StoreIndexed, Addi, Addis, Map, ebx, esi, edi}
+use Rattle.reg_map.specs.Prelude.{slot_of}
 use Rattle.rule_body.specs.declared.line.Hole.{Hole}
 use Rattle.rule_body.specs.declared.line.Hole.TheVariants.{S, Z, H, N}
-use Rattle.rule_body.specs.Templates.{slot_count}
+use Rattle.rule_body.specs.Prelude.{slot_count}
 
 -- What a rule leaves open and a place settles: the GPR of each parameter, the register that stands for each of ebx, esi and
 -- edi of the body, the constant of each free word, and where a last branch leads.

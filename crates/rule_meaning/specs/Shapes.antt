@@ -1,19 +1,8 @@
 -- Which values an op of a body reads, where its results go, and what it may leave undefined: the machine's ops as a table. This
 -- project's own.
 use Rattle.std.specs.Prelude.{◌≡◌, ℕ, ◌%◌, ◌^◌, ◌&&◌, if◌then◌else◌, Bool, true, false, Option, Some}
-use Rattle.ia_codec.specs.declared.op.Operand.{Operand}
-use Rattle.ia_codec.specs.declared.op.Operand.TheVariants.{Reg}
-use Rattle.ia_codec.specs.declared.op.AluOp.{AluOp}
-use Rattle.ia_codec.specs.declared.op.AluOp.TheVariants.{Cmp}
-use Rattle.ia_codec.specs.declared.op.UnaryOp.TheVariants.{Not, Neg}
-use Rattle.ia_codec.specs.declared.op.Op.{Op}
-use Rattle.ia_codec.specs.declared.op.Op.TheVariants.{AluTo, AluFrom, AluImm, TestReg, TestImm, Unary, Imul, MovTo, MovFrom, MovImm, MovToImm, MovHalfTo, MovByteTo, MovByteFrom, Shift, ShiftByCl, Lea, Extend, Bswap, Set, Cmov, Bsr, Cdq}
-use Rattle.ia_codec.specs.Effect.{Flags, HostValues, HostEffect}
-use Rattle.ia_codec.specs.Rows.{host_row}
-use Rattle.ia_codec.specs.Registers.{eax, ecx, edx}
-use Rattle.machines.specs.Memory.{Rights, update}
-use Rattle.machines.specs.Host.{Choice, Core, place_of, address_in, byte_for, puts_both, host_values, reads, puts, bind, does, extend_size}
-use Rattle.rule_body.specs.Ops.{is_straight}
+use Rattle.machines.specs.Prelude.{Operand, Reg, AluOp, Cmp, Not, Neg, Op, AluTo, AluFrom, AluImm, TestReg, TestImm, Unary, Imul, MovTo, MovFrom, MovImm, MovToImm, MovHalfTo, MovByteTo, MovByteFrom, Shift, ShiftByCl, Lea, Extend, Bswap, Set, Cmov, Bsr, Cdq, Flags, HostValues, HostEffect, host_row, eax, ecx, edx, Rights, update, Choice, Core, place_of, address_in, byte_for, puts_both, host_values, reads, puts, bind, does, extend_size}
+use Rattle.rule_body.specs.Prelude.{is_straight}
 
 -- 0, an operand of so many bytes, the op's own immediate, cl, or the address of an operand
 pub data Source : Type 0 where

@@ -1,18 +1,11 @@
 -- When a rule is sound. This project's own.
 use Rattle.std.specs.Prelude.{◌≡◌, ℕ, ◌+◌, ◌^◌, ◌==◌, ◌&&◌, not, nat_lt, bit_and, if◌then◌else◌, Bool, List, map as list_map, Option, Some, None}
 use Rattle.std.specs.List.{list_any, range_with_len}
-use Rattle.ppc_isa.specs.declared.instr.Instr.{Instr}
-use Rattle.ppc_isa.specs.declared.map.Map.{Map}
-use Rattle.ppc_isa.specs.Map.{IsMap}
-use Rattle.ia_codec.specs.declared.op.Op.{Op}
-use Rattle.ia_codec.specs.declared.op.Condition.{Condition}
-use Rattle.ia_codec.specs.Spelling.{condition_number}
-use Rattle.symbolic_tiles.specs.Relocated.{op_at}
-use Rattle.symbolic_tiles.specs.Row.{Window, Implements}
+use Rattle.machines.specs.Prelude.{Instr, Map, IsMap, Op, Condition, condition_number}
+use Rattle.symbolic_tiles.specs.Prelude.{op_at, Window, Implements}
 use Rattle.rule_body.specs.declared.goal.Goal.{Goal}
 use Rattle.rule_body.specs.declared.rule.Rule.{Rule}
-use Rattle.rule_body.specs.Templates.{IsWindow, named}
-use Rattle.rule_body.specs.Goals.{guests_of, template_of}
+use Rattle.rule_body.specs.Prelude.{IsWindow, named, guests_of, template_of}
 use Rattle.rule_meaning.specs.Matches.{Match, IsMatch}
 use Rattle.rule_meaning.specs.LaidWords.{laid_words}
 use Rattle.rule_meaning.specs.LaidOps.{laid_ops}

@@ -1,14 +1,9 @@
 -- What instructions do one after another, as a window. This project's own.
 use Rattle.std.specs.Prelude.{ℕ, Bool, true, false, List, [], ◌∷◌, ◌++◌, Option}
 use Rattle.std.specs.List.{flat_map}
-use Rattle.ppc_isa.specs.declared.instr.Instr.{Instr}
-use Rattle.ppc_isa.specs.Locations.{locations_written}
-use Rattle.ia_codec.specs.declared.op.Condition.{Condition}
-use Rattle.runs.specs.Machine.{Outcome, Goes, Asks, Ends}
-use Rattle.machines.specs.Memory.{Rights}
-use Rattle.machines.specs.Guest.{Guest, effect_of, guest_acts}
-use Rattle.symbolic_tiles.specs.Row.{Window, loaded, stored}
-use Rattle.simulation.specs.Windows.{rows_of}
+use Rattle.machines.specs.Prelude.{Instr, locations_written, Condition, Outcome, Goes, Asks, Ends, Rights, Guest, effect_of, guest_acts}
+use Rattle.symbolic_tiles.specs.Prelude.{Window, loaded, stored}
+use Rattle.simulation.specs.Prelude.{rows_of}
 
 -- every address is held and may be written
 abbrev pub everywhere : Rights

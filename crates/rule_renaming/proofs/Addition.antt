@@ -2,40 +2,18 @@
 use Rattle.std.proofs.Common.{◌≡◌, ◌≢◌, ℕ, ◌+◌, ◌*◌, ◌%◌, ◌^◌, ◌<◌, ⊎_elim, Bool, true, false, cond, ltb, List, [], ◌∷◌, map as list_map, IsBitSet, Option, Some, None, refl, sym, ap, ◌∙◌, subst, arith}
 use Rattle.std.proofs.lemmas.Bool.Decides.{nat_tests}
 use Rattle.std.specs.Int.Bits.{and_zero_l}
-use Rattle.runs.specs.Machine.{Goes}
-use Rattle.ppc_isa.specs.declared.map.Map.{Map}
-use Rattle.ppc_isa.specs.Legal.{HasOneInstruction, IsWordOf}
-use Rattle.ppc_isa.specs.Instruction.{Instr, Arithmetic, Add}
+use Rattle.machines.specs.Prelude.{Goes, Map, HasOneInstruction, IsWordOf, Instr, Arithmetic, Add, Condition, Pair, Lea, update, Rights, Guest, at_next, Core, value_at, IsReg}
 use Rattle.row_laws.proofs.Lists.{first_in}
-use Rattle.ia_codec.specs.declared.op.Condition.{Condition}
-use Rattle.ia_codec.specs.declared.op.Operand.TheVariants.{Pair}
-use Rattle.ia_codec.specs.declared.op.Op.TheVariants.{Lea}
-use Rattle.reg_map.specs.Home.{home, home_size, location_range}
-use Rattle.reg_map.specs.Place.{slot_of}
-use Rattle.machines.specs.Memory.{update, Rights}
-use Rattle.machines.specs.Guest.{Guest, at_next}
-use Rattle.machines.specs.Host.{Core, Memory, value_at}
-use Rattle.reg_map.specs.Representation.{in_slot, location_place}
-use Rattle.symbolic_tiles.specs.Relocated.{op_at}
-use Rattle.symbolic_tiles.specs.Row.{TilePrecondition, TilePostcondition, Implements}
+use Rattle.reg_map.specs.Prelude.{home, home_size, location_range, slot_of, in_slot, location_place}
+use Rattle.machines.specs.Host.{Memory}
+use Rattle.symbolic_tiles.specs.Prelude.{op_at, TilePrecondition, TilePostcondition, Implements}
 use Rattle.symbolic_tiles.proofs.Memory.{update_same, update_other}
 use Rattle.symbolic_tiles.proofs.Places.{slots_apart}
 use Rattle.rule_body.specs.declared.goal.Goal.{Goal}
 use Rattle.rule_body.specs.declared.body.Body.{Body}
 use Rattle.rule_body.specs.declared.goal.Guest.{Guest as GuestWord}
-use Rattle.rule_body.specs.Templates.{AreGuests}
-use Rattle.rule_body.specs.Goals.{guests_of, template_of, IsGoal}
-use Rattle.rule_body.specs.Bodies.{IsBody}
-use Rattle.ia_codec.specs.Spelling.{IsReg}
-use Rattle.rule_body.specs.Rows.{is_ending}
-use Rattle.rule_body.specs.Ops.{is_straight, parts, accesses}
-use Rattle.rule_body.specs.Rules.{IsRule}
-use Rattle.rule_meaning.specs.Matches.{Match}
-use Rattle.rule_meaning.specs.LaidWords.{laid_words}
-use Rattle.rule_meaning.specs.LaidOps.{laid_ops}
-use Rattle.rule_meaning.specs.Windows.{window, loads_of, stores_of}
-use Rattle.rule_meaning.specs.Accesses.{AccessWindow, accessed}
-use Rattle.rule_meaning.specs.Sound.{IsConditionOf, dead_of}
+use Rattle.rule_body.specs.Prelude.{AreGuests, guests_of, template_of, IsGoal, IsBody, is_ending, is_straight, parts, accesses, IsRule}
+use Rattle.rule_meaning.specs.Prelude.{Match, laid_words, laid_ops, window, loads_of, stores_of, AccessWindow, accessed, IsConditionOf, dead_of}
 use Rattle.rule_renaming.specs.Plain.{plain, IsOwnMap, OneInstanceIsEnough}
 use Rattle.rule_renaming.specs.Examples.{add_goal, lea_body, AdditionIsSound}
 use Rattle.rule_renaming.proofs.Guests.{is_same}

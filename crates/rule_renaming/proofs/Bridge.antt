@@ -2,18 +2,13 @@
 -- project's own.
 use Rattle.std.proofs.Common.{◌≡◌, ℕ, zero, suc, ◌+◌, ◌-◌, ◌*◌, ◌/◌, ◌%◌, ◌^◌, ◌<◌, ◌≤◌, ◌⊎◌, inl, inr, ⊎_elim, Bool, true, false, cond, ◌&&◌, leb, ltb, List, length, Option, Some, None, refl, sym, ap, ◌∙◌, subst, arith}
 use Rattle.std.proofs.lemmas.Bool.Decides.{nat_tests}
-use Rattle.ppc_isa.specs.declared.map.Map.{Map}
-use Rattle.reg_map.specs.Home.{home, home_size, location_range}
-use Rattle.reg_map.specs.Place.{slot_of}
-use Rattle.machines.specs.Memory.{load, Rights}
-use Rattle.machines.specs.Guest.{Guest}
-use Rattle.machines.specs.Host.{Core, Memory, value_at}
-use Rattle.reg_map.specs.Representation.{in_slot, location_place, IsHomePage, Represents, AreInRange}
-use Rattle.symbolic_tiles.specs.Row.{Any, IsCore}
+use Rattle.machines.specs.Prelude.{Map, load, Rights, Guest, Core, value_at}
+use Rattle.reg_map.specs.Prelude.{home, home_size, location_range, slot_of, in_slot, location_place, IsHomePage, Represents, AreInRange}
+use Rattle.machines.specs.Host.{Memory}
+use Rattle.symbolic_tiles.specs.Prelude.{Any, IsCore}
 use Rattle.symbolic_tiles.proofs.Places.{slots_apart, slot_gpr, slot_cached, home_within}
 use Rattle.symbolic_tiles.proofs.Small.{both_true}
-use Rattle.rule_meaning.specs.Matches.{Match}
-use Rattle.rule_meaning.specs.LaidOps.{register_of, offset_of}
+use Rattle.rule_meaning.specs.Prelude.{Match, register_of, offset_of}
 use Rattle.rule_renaming.proofs.Parameters.{is_parameter, is_in_slot, slot_at, par_from, par_to, Bound, Own}
 use Rattle.rule_renaming.proofs.Hosts.{IsFar, Renames, Renamed, load_alike}
 use Rattle.rule_renaming.proofs.Guests.{GuestNames, SameLocs, SameGuest}

@@ -3,23 +3,10 @@
 use Rattle.std.proofs.Common.{◌≡◌, ◌≢◌, ℕ, zero, suc, ◌+◌, ◌*◌, ◌/◌, ◌%◌, ◌^◌, ◌<◌, ◌≤◌, ◌⊎◌, inl, inr, ⊎_elim, Bool, true, false, cond, eqb, List, [], ◌∷◌, ◌++◌, drop, map as list_map, Option, Some, None, Contains, refl, sym, ap, ◌∙◌, subst, arith}
 use Rattle.std.proofs.lemmas.Bool.Decides.{nat_tests}
 use Rattle.std.proofs.lemmas.List.Elements.{Contains-append_left, Contains-append_right}
-use Rattle.ia_codec.specs.declared.op.Operand.{Operand}
-use Rattle.ia_codec.specs.declared.op.Operand.TheVariants.{Reg, Abs, Base, Pair}
-use Rattle.ia_codec.specs.declared.op.Op.{Op}
-use Rattle.ia_codec.specs.declared.op.Op.TheVariants.{AluTo, AluFrom, AluImm, TestReg, TestImm, Unary, Imul, MovTo, MovFrom, MovImm, MovToImm, MovHalfTo, MovByteTo, MovByteFrom, Shift, ShiftByCl, Lea, Extend, Bswap, Set, Cmov, Bsr, Cdq}
-use Rattle.ia_codec.specs.declared.op.UnaryOp.TheVariants.{Not, Neg, Mul, Imul1}
-use Rattle.ia_codec.specs.declared.op.ExtendOp.TheVariants.{MovzxByte, MovzxHalf, MovsxByte, MovsxHalf}
-use Rattle.ia_codec.specs.Effect.{Flags, HostValues, HostEffect}
-use Rattle.ia_codec.specs.Rows.{host_row}
-use Rattle.runs.specs.Machine.{Outcome}
-use Rattle.machines.specs.Memory.{update, load, store, each_byte, Rights}
-use Rattle.machines.specs.Host.{Choice, Core, Host, Place, Register, Memory, place_of, put_at, host_values, chosen_word, chosen_flags, has_result, extend_size, address_in, byte_for, puts_both, bind, reads, puts, leaves, does, choice_at, goes_to}
-use Rattle.symbolic_tiles.specs.Perform.{is_jump, op_outcome, core_behind, perform}
-use Rattle.symbolic_tiles.specs.Relocated.{operand_at, op_at}
-use Rattle.symbolic_tiles.specs.Row.{span}
-use Rattle.rule_meaning.specs.Matches.{Match}
-use Rattle.rule_meaning.specs.LaidOps.{register_of, offset_of, placed_operand, placed}
-use Rattle.rule_meaning.specs.Accesses.{summed, op_loads, op_stores, accessed, accessed_behind}
+use Rattle.machines.specs.Prelude.{Operand, Reg, Abs, Base, Pair, Op, AluTo, AluFrom, AluImm, TestReg, TestImm, Unary, Imul, MovTo, MovFrom, MovImm, MovToImm, MovHalfTo, MovByteTo, MovByteFrom, Shift, ShiftByCl, Lea, Extend, Bswap, Set, Cmov, Bsr, Cdq, Not, Neg, Mul, Imul1, MovzxByte, MovzxHalf, MovsxByte, MovsxHalf, Flags, HostValues, HostEffect, host_row, Outcome, update, load, store, each_byte, Rights, Choice, Core, Host, Place, Register, place_of, put_at, host_values, chosen_word, chosen_flags, has_result, extend_size, address_in, byte_for, puts_both, bind, reads, puts, leaves, does, choice_at, goes_to}
+use Rattle.machines.specs.Host.{Memory}
+use Rattle.symbolic_tiles.specs.Prelude.{is_jump, op_outcome, core_behind, perform, operand_at, op_at, span}
+use Rattle.rule_meaning.specs.Prelude.{Match, register_of, offset_of, placed_operand, placed, summed, op_loads, op_stores, accessed, accessed_behind}
 use Rattle.row_laws.proofs.Lists.{none_in, first_in, later_in}
 use Rattle.symbolic_tiles.proofs.Memory.{update_same, update_other, store_other, store_same}
 use Rattle.symbolic_tiles.proofs.Places.{each_of}

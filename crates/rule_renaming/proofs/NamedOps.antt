@@ -2,24 +2,12 @@
 use Rattle.std.proofs.Common.{◌≡◌, ℕ, ◌+◌, ◌-◌, ◌*◌, ◌<◌, ◌≤◌, inl, inr, Bool, true, false, ◌&&◌, ◌||◌, ◌==◌, nat_lt, List, [], ◌∷◌, ◌++◌, IsTrue, Option, Some, None, refl, sym, ap, ◌∙◌, subst, arith}
 use Rattle.std.specs.List.{AllByRecursion}
 use Rattle.std.proofs.lemmas.Bool.Decides.{nat_tests}
-use Rattle.ppc_isa.specs.declared.map.Map.{Map}
-use Rattle.ia_codec.specs.Spelling.{IsInProfile}
-use Rattle.ia_codec.specs.declared.op.Operand.{Operand}
-use Rattle.ia_codec.specs.declared.op.Operand.TheVariants.{Reg, Abs, Base, Pair}
-use Rattle.ia_codec.specs.declared.op.Op.{Op}
-use Rattle.ia_codec.specs.declared.op.Op.TheVariants.{AluTo, AluFrom, AluImm, TestReg, TestImm, Unary, Imul, MovTo, MovFrom, MovImm, MovToImm, MovHalfTo, MovByteTo, MovByteFrom, Shift, ShiftByCl, Lea, Extend, Bswap, Set, Cmov, Bsr, Cdq, Jcc, Jmp, JmpTo, Int80, Int3, Ud2}
-use Rattle.ia_codec.specs.declared.op.UnaryOp.TheVariants.{Not, Neg, Mul, Imul1, Div, Idiv}
-use Rattle.ia_codec.specs.declared.op.ExtendOp.TheVariants.{MovzxByte, MovzxHalf, MovsxByte, MovsxHalf}
-use Rattle.machines.specs.Memory.{Rights}
-use Rattle.machines.specs.Host.{extend_size}
+use Rattle.machines.specs.Prelude.{Map, IsInProfile, Operand, Reg, Abs, Base, Pair, Op, AluTo, AluFrom, AluImm, TestReg, TestImm, Unary, Imul, MovTo, MovFrom, MovImm, MovToImm, MovHalfTo, MovByteTo, MovByteFrom, Shift, ShiftByCl, Lea, Extend, Bswap, Set, Cmov, Bsr, Cdq, Jcc, Jmp, JmpTo, Int80, Int3, Ud2, Not, Neg, Mul, Imul1, Div, Idiv, MovzxByte, MovzxHalf, MovsxByte, MovsxHalf, Rights, extend_size}
 use Rattle.rule_body.specs.declared.line.Hole.{Hole}
 use Rattle.rule_body.specs.declared.line.HostLine.{HostLine}
 use Rattle.rule_body.specs.declared.operands.OpParts.{OpParts}
-use Rattle.rule_body.specs.Ops.{is_straight, parts, operand_registers, registers}
-use Rattle.rule_body.specs.Lines.{is_usable, IsHome, IsOperandFor, IsHostLine}
-use Rattle.rule_body.specs.Templates.{Template, slot_count}
-use Rattle.rule_meaning.specs.Matches.{Match, slot_register, body_slot, hole_value}
-use Rattle.rule_meaning.specs.LaidOps.{offset_of, displaced, filled_op, filled_hole}
+use Rattle.rule_body.specs.Prelude.{is_straight, parts, operand_registers, registers, is_usable, IsHome, IsOperandFor, IsHostLine, Template, slot_count}
+use Rattle.rule_meaning.specs.Prelude.{Match, slot_register, body_slot, hole_value, offset_of, displaced, filled_op, filled_hole}
 use Rattle.rule_renaming.proofs.Slots.{find_slot}
 use Rattle.rule_renaming.proofs.Parameters.{slot_par, Bound}
 use Rattle.rule_renaming.proofs.Hosts.{IsOwn, IsAddress, IsWithin, IsNamed}

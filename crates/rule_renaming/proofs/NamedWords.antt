@@ -5,17 +5,12 @@ use Rattle.std.specs.List.{flat_map}
 use Rattle.std.proofs.Math.Nat.{le-max_left, le-max_right}
 use Rattle.std.proofs.lemmas.Bool.Decides.{nat_tests}
 use Rattle.std.proofs.lemmas.List.Elements.{Contains-append_left, Contains-append_right}
-use Rattle.ppc_isa.specs.declared.map.Map.{Map}
-use Rattle.ppc_isa.specs.Legal.{HasOneInstruction, bo_0, bo_2}
+use Rattle.machines.specs.Prelude.{Map, HasOneInstruction, bo_0, bo_2, Instr, Immediate, LogicImmediate, CompareImmediate, Rotate, Arithmetic, ArithmeticUnary, Logic, ShiftImmediate, LogicUnary, Compare, MoveFromCr, MoveToCr, MoveFromSpr, MoveToSpr, Sync, MoveCrField, CrLogic, Isync, Load, Store, LoadUpdate, StoreUpdate, LoadIndexed, StoreIndexed, LoadIndexedUpdate, StoreIndexedUpdate, BranchConditional, Multiple, TrapImmediate, Branch, SystemCall, Trap, BranchRegister, Addi, Addis, Addic, AddicRecord, Subfic, Mulli, Rlwinm, Rlwnm, Rlwimi}
 use Rattle.ppc_isa.specs.Locations.{base}
 use Rattle.row_laws.proofs.Lists.{none_in, first_in, later_in, first_or_later}
-use Rattle.ppc_isa.specs.Instruction.{Instr, Immediate, LogicImmediate, CompareImmediate, Rotate, Arithmetic, ArithmeticUnary, Logic, ShiftImmediate, LogicUnary, Compare, MoveFromCr, MoveToCr, MoveFromSpr, MoveToSpr, Sync, MoveCrField, CrLogic, Isync, Load, Store, LoadUpdate, StoreUpdate, LoadIndexed, StoreIndexed, LoadIndexedUpdate, StoreIndexedUpdate, BranchConditional, Multiple, TrapImmediate, Branch, SystemCall, Trap, BranchRegister, Addi, Addis, Addic, AddicRecord, Subfic, Mulli, Rlwinm, Rlwnm, Rlwimi}
 use Rattle.rule_body.specs.declared.goal.Guest.{Guest}
-use Rattle.rule_body.specs.Rows.{is_plain, is_ending}
-use Rattle.rule_body.specs.Numbers.{numbers, AreNumbered, highest}
-use Rattle.rule_body.specs.Templates.{AreGuests, IsWindow, IsPlaced}
-use Rattle.rule_meaning.specs.Matches.{Match, IsMatch, base_field}
-use Rattle.rule_meaning.specs.LaidWords.{bound, filled, laid_words}
+use Rattle.rule_body.specs.Prelude.{is_plain, is_ending, numbers, AreNumbered, highest, AreGuests, IsWindow, IsPlaced}
+use Rattle.rule_meaning.specs.Prelude.{Match, IsMatch, base_field, bound, filled, laid_words}
 use Rattle.rule_meaning.proofs.Grammar.{row_of}
 use Rattle.rule_renaming.proofs.Parameters.{par_is, place_back, place_in}
 use Rattle.rule_renaming.proofs.Guests.{IsField, IsNamedWord, AreNamedWords}

@@ -2,11 +2,9 @@
 use Rattle.std.proofs.Common.{◌≡◌, ℕ, ◌+◌, ◌-◌, ◌<◌, ◌≤◌, Bool, true, false, ◌&&◌, leb, List, length, get_or, slice_get, Some, None, sym, ap, ◌∙◌, subst, arith}
 use Rattle.std.proofs.lemmas.Bool.Decides.{nat_tests}
 use Rattle.std.proofs.lemmas.Option.{slice_get-get_or, slice_get_within, get_or_from_slice_get}
-use Rattle.ppc_isa.specs.declared.instr.Instr.{Instr}
-use Rattle.ppc_isa.specs.declared.map.Map.{Map}
-use Rattle.ppc_isa.specs.Map.{IsMap}
-use Rattle.reg_map.specs.Place.{slot_of}
-use Rattle.rule_meaning.specs.Matches.{Match, IsMatch, body_slot}
+use Rattle.machines.specs.Prelude.{Instr, Map, IsMap}
+use Rattle.reg_map.specs.Prelude.{slot_of}
+use Rattle.rule_meaning.specs.Prelude.{Match, IsMatch, body_slot}
 use Rattle.rule_renaming.specs.Plain.{IsOwnMap}
 
 -- p is the number of a parameter, and it stands in a slot

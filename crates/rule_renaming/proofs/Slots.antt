@@ -3,11 +3,11 @@ use Rattle.std.proofs.Common.{◌≡◌, ◌≢◌, ℕ, zero, suc, ◌+◌, ◌
 use Rattle.std.proofs.lemmas.List.Sums.{sum_by-cons}
 use Rattle.std.proofs.lemmas.Bool.Decides.{nat_tests}
 use Rattle.std.proofs.lemmas.Option.{slice_get_within}
-use Rattle.ppc_isa.specs.declared.map.Map.{Map}
-use Rattle.ppc_isa.specs.Map.{IsHeld, AreApart}
-use Rattle.reg_map.specs.Place.{holds, slot_of}
-use Rattle.rule_body.specs.Templates.{slot_count}
-use Rattle.rule_meaning.specs.Matches.{slot_register}
+use Rattle.machines.specs.Prelude.{Map, IsHeld}
+use Rattle.ppc_isa.specs.Map.{AreApart}
+use Rattle.reg_map.specs.Prelude.{holds, slot_of}
+use Rattle.rule_body.specs.Prelude.{slot_count}
+use Rattle.rule_meaning.specs.Prelude.{slot_register}
 use Rattle.rule_renaming.specs.Plain.{IsOwnMap}
 
 one_more : (slots : List Bool) → slot_count (true ∷ slots) ≡ 1 + slot_count slots

@@ -2,31 +2,13 @@
 use Rattle.std.proofs.Common.{◌≡◌, ℕ, ◌≤◌, Bool, false, List, [], ◌∷◌, length, map as list_map, Option, Some, None, Contains, refl, sym, ap, ◌∙◌, subst, arith}
 use Rattle.std.specs.List.{AllByRecursion}
 use Rattle.std.proofs.lemmas.List.{length-take}
-use Rattle.runs.specs.Machine.{Outcome, Goes, Asks, Ends}
-use Rattle.ppc_isa.specs.declared.map.Map.{Map}
-use Rattle.ppc_isa.specs.declared.instr.Instr.{Instr}
-use Rattle.ppc_isa.specs.Legal.{HasOneInstruction}
-use Rattle.ia_codec.specs.declared.op.Op.{Op}
-use Rattle.ia_codec.specs.declared.op.Condition.{Condition}
-use Rattle.machines.specs.Memory.{Rights}
-use Rattle.machines.specs.Guest.{Guest}
-use Rattle.machines.specs.Host.{Choice, Core}
-use Rattle.reg_map.specs.Representation.{IsHomePage}
-use Rattle.symbolic_tiles.specs.Relocated.{op_at}
-use Rattle.symbolic_tiles.specs.Perform.{perform}
-use Rattle.symbolic_tiles.specs.Row.{Window, TilePrecondition, TilePostcondition, GoesThrough, Implements}
-use Rattle.simulation.specs.Windows.{rows_of}
+use Rattle.machines.specs.Prelude.{Outcome, Goes, Asks, Ends, Map, Instr, HasOneInstruction, Op, Condition, Rights, Guest, Choice, Core}
+use Rattle.reg_map.specs.Prelude.{IsHomePage}
+use Rattle.symbolic_tiles.specs.Prelude.{op_at, perform, Window, TilePrecondition, TilePostcondition, GoesThrough, Implements}
+use Rattle.simulation.specs.Prelude.{rows_of}
 use Rattle.rule_body.specs.declared.line.HostLine.{HostLine}
-use Rattle.rule_body.specs.Templates.{Template}
-use Rattle.rule_body.specs.Goals.{guests_of, template_of}
-use Rattle.rule_body.specs.Bodies.{lines_of}
-use Rattle.rule_body.specs.Lines.{IsHostLine}
-use Rattle.rule_meaning.specs.Matches.{Match}
-use Rattle.rule_meaning.specs.LaidWords.{bound, laid_words}
-use Rattle.rule_meaning.specs.LaidOps.{placed, filled_hole, laid_line, laid_ops}
-use Rattle.rule_meaning.specs.Windows.{window, loads_of, stores_of}
-use Rattle.rule_meaning.specs.Accesses.{AccessWindow, HaveAccess}
-use Rattle.rule_meaning.specs.Sound.{dead_of}
+use Rattle.rule_body.specs.Prelude.{Template, guests_of, template_of, lines_of, IsHostLine}
+use Rattle.rule_meaning.specs.Prelude.{Match, bound, laid_words, placed, filled_hole, laid_line, laid_ops, window, loads_of, stores_of, AccessWindow, HaveAccess, dead_of}
 use Rattle.rule_meaning.proofs.Grammar.{has_take, rule_words}
 use Rattle.rule_meaning.proofs.Passing.{AreRuleWords, Passed, next_of, words_passed}
 use Rattle.rule_renaming.specs.Plain.{plain, OneInstanceIsEnough}

@@ -4,15 +4,12 @@ use Rattle.std.specs.List.{flat_map, range_with_len}
 use Rattle.std.proofs.lemmas.Bool.Decides.{nat_tests}
 use Rattle.std.proofs.lemmas.List.Elements.{Contains-append_cases, Contains-append_left, Contains-append_right}
 use Rattle.std.proofs.lemmas.List.Folds.{Any-from_list_any, list_any-from_Any}
-use Rattle.ppc_isa.specs.Locations.{when, special, count, chosen_fields, immediate_carries, immediate_records, logic_immediate_records, carry_out, unary_carry, logic_carries, locations_written}
+use Rattle.machines.specs.Prelude.{when, special, count, chosen_fields, immediate_carries, immediate_records, logic_immediate_records, carry_out, unary_carry, logic_carries, locations_written, Instr, Immediate, LogicImmediate, CompareImmediate, Rotate, Arithmetic, ArithmeticUnary, Logic, ShiftImmediate, LogicUnary, Compare, MoveFromCr, MoveToCr, MoveFromSpr, MoveToSpr, Sync, MoveCrField, CrLogic, Isync, Load, Store, LoadUpdate, StoreUpdate, LoadIndexed, StoreIndexed, LoadIndexedUpdate, StoreIndexedUpdate, BranchConditional}
 use Rattle.row_laws.proofs.Lists.{none_in, first_in, later_in, first_or_later, in_chosen}
-use Rattle.ppc_isa.specs.Instruction.{Instr, Immediate, LogicImmediate, CompareImmediate, Rotate, Arithmetic, ArithmeticUnary, Logic, ShiftImmediate, LogicUnary, Compare, MoveFromCr, MoveToCr, MoveFromSpr, MoveToSpr, Sync, MoveCrField, CrLogic, Isync, Load, Store, LoadUpdate, StoreUpdate, LoadIndexed, StoreIndexed, LoadIndexedUpdate, StoreIndexedUpdate, BranchConditional}
 use Rattle.symbolic_tiles.proofs.Small.{both_true}
 use Rattle.rule_body.specs.declared.goal.Goal.{Goal}
-use Rattle.rule_body.specs.Templates.{named}
-use Rattle.rule_meaning.specs.Matches.{Match}
-use Rattle.rule_meaning.specs.LaidWords.{register_field, bound}
-use Rattle.rule_meaning.specs.Sound.{is_dead_name, location_named, dead_of}
+use Rattle.rule_body.specs.Prelude.{named}
+use Rattle.rule_meaning.specs.Prelude.{Match, register_field, bound, is_dead_name, location_named, dead_of}
 use Rattle.rule_renaming.specs.Plain.{plain}
 use Rattle.rule_renaming.proofs.Guests.{GuestNames, IsNamedWord, AreNamedWords}
 

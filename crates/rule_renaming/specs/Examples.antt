@@ -1,15 +1,12 @@
 -- A worked rule: p1 = p2 + p3, each in a slot, is one lea. This project's own.
 use Rattle.std.specs.Prelude.{◌≡◌, true, false, [], ◌∷◌, None}
 use Rattle.std.specs.List.{AllByRecursion}
-use Rattle.ia_codec.specs.declared.op.Operand.TheVariants.{Pair}
-use Rattle.ia_codec.specs.declared.op.Op.TheVariants.{Lea}
-use Rattle.ia_codec.specs.Registers.{ebx, esi, edi}
+use Rattle.machines.specs.Prelude.{Pair, Lea, ebx, esi, edi}
 use Rattle.rule_body.specs.declared.goal.Goal.{Goal}
 use Rattle.rule_body.specs.declared.body.Body.{Body}
 use Rattle.rule_body.specs.declared.rule.Rule.{Rule}
-use Rattle.rule_body.specs.Bodies.{no_line}
-use Rattle.rule_body.specs.Rules.{AreRising, IsRule}
-use Rattle.rule_meaning.specs.Sound.{IsSound}
+use Rattle.rule_body.specs.Prelude.{no_line, AreRising, IsRule}
+use Rattle.rule_meaning.specs.Prelude.{IsSound}
 
 -- the window is the word 0x7c221a14, add 1,2,3; its three parameters are in slots, and nothing is dead
 abbrev pub add_goal : Goal

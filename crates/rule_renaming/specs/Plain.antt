@@ -1,16 +1,10 @@
 -- One instance of a rule: with each parameter as the GPR of its own number. This project's own.
 use Rattle.std.specs.Prelude.{◌≡◌, ℕ, ◌+◌, ◌^◌, ◌<◌, Bool, true, List, slice_get, Option, Some, None}
-use Rattle.ppc_isa.specs.declared.instr.Instr.{Instr}
-use Rattle.ppc_isa.specs.declared.map.Map.{Map}
-use Rattle.ppc_isa.specs.Map.{IsMap}
-use Rattle.ia_codec.specs.declared.op.Condition.{Condition}
-use Rattle.reg_map.specs.Place.{slot_of}
+use Rattle.machines.specs.Prelude.{Instr, Map, IsMap, Condition}
+use Rattle.reg_map.specs.Prelude.{slot_of}
 use Rattle.rule_body.specs.declared.rule.Rule.{Rule}
-use Rattle.rule_body.specs.Rules.{IsRule}
-use Rattle.rule_body.specs.Templates.{IsWindow}
-use Rattle.rule_body.specs.Goals.{guests_of, template_of}
-use Rattle.rule_meaning.specs.Matches.{Match, body_slot}
-use Rattle.rule_meaning.specs.Sound.{IsConditionOf, IsSoundAt, IsSound}
+use Rattle.rule_body.specs.Prelude.{IsRule, IsWindow, guests_of, template_of}
+use Rattle.rule_meaning.specs.Prelude.{Match, body_slot, IsConditionOf, IsSoundAt, IsSound}
 
 -- the match with these constants and this target that gives each parameter the GPR of its own number, and leaves each register
 -- of the body as it is

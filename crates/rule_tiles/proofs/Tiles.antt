@@ -1,23 +1,12 @@
 -- A sound rule that is laid where it matches is a tile of the plan, and keeps the simulation. This project's own.
 use Rattle.std.proofs.Common.{◌≡◌, ℕ, ◌<◌, ◌≤◌, Bool, true, false, cond, List, [], ◌∷◌, length, Option, Some, None, refl, sym, ap, ◌∙◌, subst, arith}
 use Rattle.std.proofs.lemmas.List.{length-take, length-map}
-use Rattle.ppc_isa.specs.declared.instr.Instr.{Instr}
-use Rattle.ppc_isa.specs.declared.map.Map.{Map}
-use Rattle.ppc_isa.specs.Legal.{HasOneInstruction}
-use Rattle.ia_codec.specs.declared.op.Condition.{Condition}
-use Rattle.machines.specs.Guest.{behind}
-use Rattle.symbolic_tiles.specs.Row.{Implements}
-use Rattle.simulation.specs.Windows.{behind_all}
-use Rattle.simulation.specs.Context.{SimulationContext}
-use Rattle.simulation.specs.Plan.{IsTile, AreWordsAt, IsInside, IsUnneeded}
-use Rattle.simulation.specs.Relation.{IsTranslation, SimulationAdvances, at_block}
+use Rattle.machines.specs.Prelude.{Instr, Map, HasOneInstruction, Condition, behind}
+use Rattle.symbolic_tiles.specs.Prelude.{Implements}
+use Rattle.simulation.specs.Prelude.{behind_all, SimulationContext, IsTile, AreWordsAt, IsInside, IsUnneeded, IsTranslation, SimulationAdvances, at_block}
 use Rattle.rule_body.specs.declared.rule.Rule.{Rule}
-use Rattle.rule_body.specs.Bodies.{lines_of}
-use Rattle.rule_meaning.specs.Matches.{Match}
-use Rattle.rule_meaning.specs.LaidOps.{laid_line, laid_ops}
-use Rattle.rule_meaning.specs.Windows.{window, taken_of}
-use Rattle.rule_meaning.specs.Sound.{IsConditionOf, dead_of, ops_of_rule}
-use Rattle.rule_meaning.specs.Laid.{target_of}
+use Rattle.rule_body.specs.Prelude.{lines_of}
+use Rattle.rule_meaning.specs.Prelude.{Match, laid_line, laid_ops, window, taken_of, IsConditionOf, dead_of, ops_of_rule, target_of}
 use Rattle.rule_meaning.proofs.Passing.{AreRuleWords, words_passed, linked_of}
 use Rattle.rule_meaning.proofs.Grammar.{has_take, rule_words}
 use Rattle.rule_tiles.specs.Laws.{window_at, StandWords, IsLaid, IsDeadAt, tile_of, branch_tile_of, RuleIsTile, RuleIsBranchTile, RuleKeeps, RuleBranchKeeps}

@@ -1,25 +1,11 @@
 -- What holds of a sound rule that is laid where it matches. This project's own.
 use Rattle.std.specs.Prelude.{◌≡◌, ℕ, ◌+◌, ◌≤◌, Bool, true, false, List, [], ◌∷◌, length, Option, Some, None}
-use Rattle.ppc_isa.specs.declared.instr.Instr.{Instr}
-use Rattle.ppc_isa.specs.declared.map.Map.{Map}
-use Rattle.ia_codec.specs.declared.op.Condition.{Condition}
-use Rattle.runs.specs.Machine.{Anywhere}
-use Rattle.runs.specs.Simulation.{Advance}
-use Rattle.machines.specs.Guest.{Guest, behind}
-use Rattle.machines.specs.Host.{Host}
-use Rattle.symbolic_tiles.specs.Row.{Window}
-use Rattle.symbolic_tiles.specs.Standing.{OpsAt}
-use Rattle.simulation.specs.Windows.{behind_all}
-use Rattle.simulation.specs.Context.{SimulationContext, IsWordAt, ForksAt, MatchesState}
-use Rattle.simulation.specs.Plan.{PlanStep, Tile, BranchTile, word_count, room, HasFewMoves, EdgeAt, BlockAt}
-use Rattle.simulation.specs.Relation.{Simulates}
+use Rattle.machines.specs.Prelude.{Instr, Map, Condition, Anywhere, Advance, Guest, behind, Host}
+use Rattle.symbolic_tiles.specs.Prelude.{Window, OpsAt}
+use Rattle.simulation.specs.Prelude.{behind_all, SimulationContext, IsWordAt, ForksAt, MatchesState, PlanStep, Tile, BranchTile, word_count, room, HasFewMoves, EdgeAt, BlockAt, Simulates}
 use Rattle.rule_body.specs.declared.rule.Rule.{Rule}
-use Rattle.rule_body.specs.Rules.{IsRule}
-use Rattle.rule_meaning.specs.Matches.{Match}
-use Rattle.rule_meaning.specs.LaidOps.{laid_ops}
-use Rattle.rule_meaning.specs.Windows.{window}
-use Rattle.rule_meaning.specs.Sound.{IsSound, IsConditionOf, dead_of, ops_of_rule}
-use Rattle.rule_meaning.specs.Laid.{IsMatchAt, target_of}
+use Rattle.rule_body.specs.Prelude.{IsRule}
+use Rattle.rule_meaning.specs.Prelude.{Match, laid_ops, window, IsSound, IsConditionOf, dead_of, ops_of_rule, IsMatchAt, target_of}
 
 -- the window of the instructions at which a rule matches, with its dead locations dead behind it
 abbrev pub window_at : Rule → List Instr → Match → Option Condition → Window

@@ -1,7 +1,6 @@
 //! What a sound rule is to a plan. Each law is the contract of a function that does nothing.
 
-ghost use Rattle.simulation.specs.Context.{SimulationContext};
-ghost use Rattle.simulation.specs.Relation.{IsTranslation};
+ghost use Rattle.simulation.specs.Prelude.{SimulationContext, IsTranslation};
 ghost use Rattle.rule_tiles.specs.Laws.{RuleIsTile, RuleIsBranchTile, RuleKeeps, RuleBranchKeeps};
 
 use ppc_isa::one_instruction;

@@ -2,18 +2,12 @@
 use Rattle.std.proofs.Common.{◌≡◌, ◌≤◌, ◌<◌, inl, inr, ℕ, Bool, true, false, leb, List, [], ◌∷◌, ◌++◌, length, take, drop, Option, Some, None, refl, sym, ap, ◌∙◌, arith}
 use Rattle.std.proofs.lemmas.List.{length-take-le}
 use Rattle.space.specs.Memory.{Memory}
-use Rattle.space.specs.declared.call.Call.{Call}
-use Rattle.space.specs.declared.call.CallKind.{CallKind}
+use Rattle.machines.specs.Prelude.{Call, CallKind, ListedCall, Read, Write, Close, AnswerValue, Got, Took, Error, Outcome, Goes}
 use Rattle.space.specs.declared.call.CallKind.TheVariants as kind
 use Rattle.std.specs.Prelude.{Vec, Result, Ok, Err, OnErr}
 use Rattle.std.specs.Global.{Global}
-use Rattle.runner.specs.declared.transfers.Taken.{Taken}
+use Rattle.runner.specs.Prelude.{Taken, Describes, StandAt, Input, Output, Errors, Bytes, Full, Faulted, faults_on, stream_of, other_answer, Streams, Told, RoseBy, CallAnswered, TakenInVain, TakesInVain, HasTaken, HasTakeCause, ReadAnswered, WriteAnswered}
 use Rattle.runner.specs.declared.transfers.Taken.TheVariants as taken
-use Rattle.runner.specs.Stepping.{Describes, StandAt}
-use Rattle.space.specs.Reports.{ListedCall, Read, Write, Close, AnswerValue, Got, Took, Error}
-use Rattle.runs.specs.Machine.{Outcome, Goes}
-use Rattle.runner.specs.Answers.{Input, Output, Errors, Bytes, Full, Faulted, faults_on, stream_of, other_answer}
-use Rattle.runner.specs.Attending.{Streams, Told, RoseBy, CallAnswered, TakenInVain, TakesInVain, HasTaken, HasTakeCause, ReadAnswered, WriteAnswered}
 
 -- what holds in any case
 pub if_err : {T E : Type 0} → (r : Result T E) (P : Type 0) → P → OnErr r P

@@ -1,14 +1,11 @@
 -- A call that a machine asks describes the call that is listed.
 use Rattle.std.proofs.Common.{◌≡◌, ◌<◌, ◌+◌, ◌%◌, ◌^◌, ℕ, zero, suc, true, false, length, Some, refl, sym, ap, ◌∙◌, arith}
 use Rattle.std.specs.Prelude.{slice_index}
-use Rattle.space.specs.declared.call.Call.{Call}
+use Rattle.machines.specs.Prelude.{Call, Program, ArePermitted, Write, block, is_held}
 use Rattle.space.specs.declared.call.CallKind.TheVariants as kind
-use Rattle.space.specs.declared.program.Program.{Program}
-use Rattle.space.specs.Memory.{Memory, ArePermitted}
-use Rattle.space.specs.Reports.{Write}
-use Rattle.machines.specs.Memory.{block, is_held}
+use Rattle.space.specs.Memory.{Memory}
 use Rattle.access.specs.Kept.{Keeps}
-use Rattle.runner.specs.Stepping.{StandAt, Describes}
+use Rattle.runner.specs.Prelude.{StandAt, Describes}
 
 block_length : (n a : ℕ) (f : ℕ → ℕ) → length (block n a f) ≡ n
 unfolding block

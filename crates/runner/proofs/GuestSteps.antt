@@ -1,22 +1,11 @@
 -- The guest machine shows its run, step by step.
 use Rattle.std.proofs.Common.{◌≡◌, ℕ, Option, refl, sym, ap, subst}
-use Rattle.space.specs.declared.call.Call.{Call}
-use Rattle.space.specs.declared.call.Event.{Event}
-use Rattle.space.specs.declared.call.Event.TheVariants.{Went, Asked, Ended}
-use Rattle.space.specs.declared.program.Program.{Program}
-use Rattle.space.specs.Reports.{ListedCall, AnswerValue}
-use Rattle.runs.specs.Machine.{Outcome, Goes, Asks}
-use Rattle.ppc_isa.specs.declared.instr.Instr.{Instr}
-use Rattle.machines.specs.Readings.{ReadsWords}
-use Rattle.machines.specs.Guest.{Guest, guest_machine}
+use Rattle.machines.specs.Prelude.{Call, Event, Went, Asked, Ended, Program, ListedCall, AnswerValue, Outcome, Goes, Asks, Instr, ReadsWords, Guest, guest_machine}
 use Rattle.machine_calls.specs.Calls.{HasBuffer as KeepsBuffer}
 use Rattle.machine_calls.specs.Phases.{IsReady, phase_of, stepped, Tells as TellsEvent}
 use Rattle.ppc_step.specs.declared.state.State.{State}
-use Rattle.ppc_step.specs.Shown.{IsState}
-use Rattle.ppc_step.specs.Calls.{IsAsking}
-use Rattle.ppc_step.specs.Steps.{Seen, Shows, IsTold}
-use Rattle.runner.specs.Stepping.{Describes, Tells}
-use Rattle.runner.specs.Guests.{ShowsGuest}
+use Rattle.ppc_step.specs.Prelude.{IsState, IsAsking, Seen, Shows, IsTold}
+use Rattle.runner.specs.Prelude.{Describes, Tells, ShowsGuest}
 use Rattle.runner.proofs.Standing.{described, tells}
 
 -- how the machine stands behind a step

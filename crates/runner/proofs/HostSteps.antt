@@ -1,21 +1,11 @@
 -- The host machine shows its run, step by step.
 use Rattle.std.proofs.Common.{◌≡◌, ℕ, List, Option, refl, sym, ap, subst}
-use Rattle.space.specs.declared.call.Call.{Call}
-use Rattle.space.specs.declared.call.Event.{Event}
-use Rattle.space.specs.declared.call.Event.TheVariants.{Went, Asked, Ended}
-use Rattle.space.specs.declared.program.Program.{Program}
-use Rattle.space.specs.Reports.{ListedCall, AnswerValue}
-use Rattle.runs.specs.Machine.{Outcome, Goes, Asks}
-use Rattle.machines.specs.Readings.{Fetched, ReadsOps}
-use Rattle.machines.specs.Host.{Host, host_machine}
+use Rattle.machines.specs.Prelude.{Call, Event, Went, Asked, Ended, Program, ListedCall, AnswerValue, Outcome, Goes, Asks, Fetched, ReadsOps, Host, host_machine}
 use Rattle.machine_calls.specs.Calls.{HasBuffer as KeepsBuffer}
 use Rattle.machine_calls.specs.Phases.{IsReady, phase_of, stepped, Tells as TellsEvent}
 use Rattle.ia_step.specs.declared.state.State.{State}
-use Rattle.ia_step.specs.Shown.{IsState}
-use Rattle.ia_step.specs.Calls.{IsAsking}
-use Rattle.ia_step.specs.Steps.{Seen, Shows, IsTold}
-use Rattle.runner.specs.Stepping.{Describes, Tells}
-use Rattle.runner.specs.Hosts.{ShowsHost}
+use Rattle.ia_step.specs.Prelude.{IsState, IsAsking, Seen, Shows, IsTold}
+use Rattle.runner.specs.Prelude.{Describes, Tells, ShowsHost}
 use Rattle.runner.proofs.Standing.{described, tells}
 
 -- how the machine stands behind a step

@@ -4,9 +4,10 @@ use Rattle.std.proofs.Math.Seq.{take-add}
 use Rattle.std.proofs.lemmas.List.{get_or-take, get_or-drop, length-take-le, length-drop, take-take}
 use Rattle.std.proofs.lemmas.Grind.{same_number_lists}
 use Rattle.std.specs.Io.KnownBytes.{Appends}
-use Rattle.space.specs.Memory.{Memory, ArePermitted}
+use Rattle.machines.specs.Prelude.{ArePermitted}
+use Rattle.space.specs.Memory.{Memory}
 use Rattle.outside.specs.Streams.{AppendsPrefix}
-use Rattle.runner.specs.Stepping.{StandAt}
+use Rattle.runner.specs.Prelude.{StandAt}
 
 some_injective : {x y : ℕ} → Some x ≡ Some y → x ≡ y
 some_injective e = grind arith

@@ -2,17 +2,10 @@
 use Rattle.std.proofs.Common.{◌≡◌, ◌≢◌, ◌≤◌, ◌+◌, ℕ, suc, List, [], ◌∷◌, ◌++◌, Option, Some, None, refl, sym, ap, ◌∙◌, subst, arith, append_assoc}
 use Rattle.std.proofs.lemmas.List.{append-nil}
 use Rattle.space.specs.Memory.{Memory}
-use Rattle.space.specs.declared.call.Call.{Call}
-use Rattle.space.specs.declared.call.Event.TheVariants.{Went, Asked, Ended}
-use Rattle.runner.specs.Stepping.{Describes, Tells, GoesOn, Resumes}
+use Rattle.machines.specs.Prelude.{Call, Went, Asked, Ended, End, Running, Dry, ListedCall, AnswerValue, listed, Outcome, Goes, Asks, Ends, run}
+use Rattle.runner.specs.Prelude.{Describes, Tells, GoesOn, Resumes, Stream, Input, Output, Errors, Bytes, Transfer, faults_on, IsAnswered, AreAnswered, HasRun, Streams, Told, RoseBy, HasCounted, Attended, AttendedPartly, TakenInVain, CallAnswered, IsMade, StepMade, StepInVain, IsOver, Steps}
 use Rattle.std.proofs.lemmas.List.Sums.{sum_by-append}
 use Rattle.runner.proofs.Answering.{none_rose}
-use Rattle.space.specs.declared.call.End.{End}
-use Rattle.space.specs.declared.call.End.TheVariants.{Running, Dry}
-use Rattle.space.specs.Reports.{ListedCall, AnswerValue, listed}
-use Rattle.runs.specs.Machine.{Outcome, Goes, Asks, Ends, run}
-use Rattle.runner.specs.Answers.{Stream, Input, Output, Errors, Bytes, Transfer, faults_on, IsAnswered, AreAnswered, HasRun}
-use Rattle.runner.specs.Attending.{Streams, Told, RoseBy, HasCounted, Attended, AttendedPartly, TakenInVain, CallAnswered, IsMade, StepMade, StepInVain, IsOver, Steps}
 
 -- The run of so many steps lists calls that are answered so, and behind them these, and ends so.
 pub record HasReport {S : Type 0} (step : S → Outcome S) (start : S) (steps : ℕ) (transfers : List Transfer) (before after : Bytes) (asked : List ListedCall) (ending : End) : Type 0 where

@@ -1,20 +1,14 @@
 -- What a machine tells by an event, where it shows its run.
 use Rattle.std.proofs.Common.{◌≡◌, ℕ, true, false, subst, refl, sym, ap, ◌∙◌, arith}
-use Rattle.space.specs.declared.call.Call.{Call}
-use Rattle.space.specs.declared.call.CallKind.{CallKind}
+use Rattle.machines.specs.Prelude.{Call, CallKind, Event, Went, Asked, Ended, Program, ListedCall, AnswerValue, Outcome, Goes, Asks, Ends}
 use Rattle.space.specs.declared.call.CallKind.TheVariants as kind
-use Rattle.space.specs.declared.call.Event.{Event}
-use Rattle.space.specs.declared.call.Event.TheVariants.{Went, Asked, Ended}
-use Rattle.space.specs.declared.program.Program.{Program}
 use Rattle.space.specs.Memory.{Memory}
-use Rattle.space.specs.Reports.{ListedCall, AnswerValue}
-use Rattle.runs.specs.Machine.{Outcome, Goes, Asks, Ends}
 use Rattle.access.specs.Kept.{Keeps}
 use Rattle.machine_calls.specs.declared.phase.Phase.{Phase}
 use Rattle.machine_calls.specs.declared.phase.Phase.TheVariants.{Going, Waiting, Over}
 use Rattle.machine_calls.specs.Calls.{HasBuffer as KeepsBuffer, listed_as, listed_call, has_right}
 use Rattle.machine_calls.specs.Phases.{IsReady, IsWaiting, is_waiting, phase_of, ShownBy, Tells as TellsEvent}
-use Rattle.runner.specs.Stepping.{Describes, Tells, IsHeld, HasBuffer, is_asked}
+use Rattle.runner.specs.Prelude.{Describes, Tells, IsHeld, HasBuffer, is_asked}
 use Rattle.runner.proofs.Called.{described_write}
 
 pub free : (phase : Phase) → is_waiting phase ≡ false → IsWaiting phase → ⊥

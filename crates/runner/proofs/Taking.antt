@@ -3,7 +3,7 @@ use Rattle.std.proofs.Common.{◌≡◌, ◌≤◌, ◌+◌, ℕ, List, [], ◌+
 use Rattle.std.proofs.Math.Seq.{drop-append_seam, take-append_seam}
 use Rattle.std.proofs.lemmas.List.{length-take, length-drop, length-append, take-append-drop, take-append-le, take_all}
 use Rattle.std.specs.Io.KnownBytes.{Consumes, IsAtEnd, Keeps}
-use Rattle.runner.specs.Attending.{Takes, TakesPartly, TakesInVain}
+use Rattle.runner.specs.Prelude.{Takes, TakesPartly, TakesInVain}
 
 -- the bytes so far are the first of those that were left, and the source has the rest
 pub record HasSoFar (now : Option (List ℕ)) (left bytes : List ℕ) : Type 0 where

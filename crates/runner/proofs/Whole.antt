@@ -1,13 +1,9 @@
 -- There is one run in which every call moves all that it can.
 use Rattle.std.proofs.Common.{◌≡◌, ℕ, zero, suc, false, ◌&&◌, List, [], ◌∷◌, ◌++◌, Option, Some, None, refl, sym, ap, ◌∙◌, arith}
-use Rattle.space.specs.declared.call.End.{End}
-use Rattle.space.specs.Reports.{ListedCall, AnswerValue}
-use Rattle.word_kit.specs.Words.{one_if}
+use Rattle.machines.specs.Prelude.{End, ListedCall, AnswerValue, one_if, Outcome, Goes, Asks, Ends, run, reported}
 use Rattle.outside.specs.Causes.{Rose}
-use Rattle.runs.specs.Machine.{Outcome, Goes, Asks, Ends, run, reported}
-use Rattle.runner.specs.Answers.{Stream, Input, Output, Errors, Bytes, Extent, Full, Faulted, Transfer, faults_on, is_same, is_faulted, IsAnswered, IsAnsweredOn, IsTransferred, AreAnswered, AreWhole, HasWholeRun, stream_of}
+use Rattle.runner.specs.Prelude.{Stream, Input, Output, Errors, Bytes, Extent, Full, Faulted, Transfer, faults_on, is_same, is_faulted, IsAnswered, IsAnsweredOn, IsTransferred, AreAnswered, AreWhole, HasWholeRun, stream_of, Streams, RoseBy, HasCounted}
 use Rattle.runner.proofs.Runs.{add_faults}
-use Rattle.runner.specs.Attending.{Streams, RoseBy, HasCounted}
 
 whole_first : (xs ys : List Transfer) → AreWhole (xs ++ ys) → AreWhole xs
 unfolding AreWhole

@@ -1,10 +1,7 @@
 -- How the calls of a program that the tool runs are answered: a read of file 0 from the input, a write to file 1 or 2 from
 -- the output or the errors, and every other call by a number alone. This project's own.
 use Rattle.std.specs.Prelude.{◌≡◌, ◌≤◌, ◌&&◌, ⊤, ℕ, Bool, true, false, cond, eqb, leb, List, [], ◌∷◌, ◌++◌, length, take, drop, count_by, Option, None, Some}
-use Rattle.space.specs.declared.call.End.{End}
-use Rattle.space.specs.declared.call.End.TheVariants.{Dry}
-use Rattle.space.specs.Reports.{ListedCall, Read, Write, Close, AnswerValue, Got, Took, Error}
-use Rattle.runs.specs.Machine.{Outcome, run}
+use Rattle.machines.specs.Prelude.{End, Dry, ListedCall, Read, Write, Close, AnswerValue, Got, Took, Error, Outcome, run}
 
 -- the streams on which calls move bytes
 pub data Stream : Type 0 where

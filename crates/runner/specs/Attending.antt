@@ -1,8 +1,6 @@
 -- What a run that is attended does to the streams.
 use Rattle.std.specs.Prelude.{◌≡◌, ◌≤◌, ◌+◌, ◌-◌, ◌^◌, min, ◌⊎◌, ◌++◌, ℕ, List, [], length, take, drop, Option, Some, None}
-use Rattle.space.specs.declared.call.End.{End}
-use Rattle.space.specs.Reports.{ListedCall, Read, AnswerValue, Got, Took, Error}
-use Rattle.runs.specs.Machine.{Outcome, Goes, Asks, Ends}
+use Rattle.machines.specs.Prelude.{End, ListedCall, Read, AnswerValue, Got, Took, Error, Outcome, Goes, Asks, Ends}
 use Rattle.outside.specs.Causes.{Rose}
 use Rattle.runner.specs.declared.transfers.Taken.{Taken}
 use Rattle.runner.specs.declared.transfers.Taken.TheVariants as taken

@@ -3,3 +3,4 @@ pub mod Stepping
 pub mod Attending
 pub mod Guests
 pub mod Hosts
+pub mod Prelude

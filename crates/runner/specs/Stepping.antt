@@ -1,12 +1,8 @@
 -- What the steps of a machine tell of its run.
 use Rattle.std.specs.Prelude.{◌≡◌, ◌%◌, ◌^◌, ◌+◌, ⊤, ℕ, Bool, true, false, List, length, slice_index, EachIndex, Some}
-use Rattle.space.specs.Memory.{Memory, ArePermitted, byte_at}
-use Rattle.space.specs.Reports.{ListedCall, Read, Write, Close, AnswerValue}
-use Rattle.space.specs.declared.call.Call.{Call}
+use Rattle.machines.specs.Prelude.{ArePermitted, ListedCall, Read, Write, Close, AnswerValue, Call, Event, Went, Asked, Ended, Outcome, Goes, Asks, Ends}
+use Rattle.space.specs.Memory.{Memory, byte_at}
 use Rattle.space.specs.declared.call.CallKind.TheVariants as kind
-use Rattle.space.specs.declared.call.Event.{Event}
-use Rattle.space.specs.declared.call.Event.TheVariants.{Went, Asked, Ended}
-use Rattle.runs.specs.Machine.{Outcome, Goes, Asks, Ends}
 use Rattle.machine_calls.specs.Phases.{IsEnd}
 
 -- these bytes stand in memory from an address on, one behind another

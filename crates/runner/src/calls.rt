@@ -1,9 +1,7 @@
 //! The answers to the calls of a program.
 
 ghost use Rattle.std.specs.Prelude.{◌≡◌, ◌≤◌, true, false, List, ℕ, OnOk, OnErr, Some, length};
-ghost use Rattle.space.specs.Memory.{ArePermitted};
-ghost use Rattle.space.specs.Reports.{ListedCall, Read, Write, Close, AnswerValue};
-ghost use Rattle.runs.specs.Machine.{Outcome, Asks};
+ghost use Rattle.machines.specs.Prelude.{ArePermitted, ListedCall, Read, Write, Close, AnswerValue, Outcome, Asks};
 ghost use Rattle.runner.specs.Answers.{Bytes};
 ghost use Rattle.runner.specs.Stepping.{Describes, IsHeld, Resumes, StandAt};
 ghost use Rattle.runner.specs.Attending.{Streams, streams_by, with_input, with_output, with_errors, Told, CallAnswered, TakenInVain, ReadAnswered, TakesInVain, WriteAnswered};

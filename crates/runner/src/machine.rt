@@ -2,8 +2,7 @@
 
 ghost use Rattle.std.specs.Prelude.{◌≡◌, Bool, true, false};
 ghost use Rattle.space.specs.Memory.{Memory};
-ghost use Rattle.space.specs.Reports.{ListedCall, AnswerValue, answer_value};
-ghost use Rattle.runs.specs.Machine.{Outcome, Goes, Asks};
+ghost use Rattle.machines.specs.Prelude.{ListedCall, AnswerValue, answer_value, Outcome, Goes, Asks};
 ghost use Rattle.machine_calls.specs.Phases.{stepped};
 ghost use Rattle.runner.specs.Stepping.{Stands, Tells, HasBuffer, is_asked};
 

@@ -1,7 +1,7 @@
 //! A run of so many steps at most.
 
 ghost use Rattle.std.specs.Prelude.{◌≡◌, ◌≢◌, ◌≤◌, false, None, IfOk, OnErr, IfSome};
-ghost use Rattle.runs.specs.Machine.{Outcome, Goes};
+ghost use Rattle.machines.specs.Prelude.{Outcome, Goes};
 ghost use Rattle.runner.specs.Answers.{Bytes};
 ghost use Rattle.runner.specs.Stepping.{GoesOn};
 ghost use Rattle.runner.specs.Attending.{streams_by, Told, Steps, StepInVain, Attended, AttendedPartly};

@@ -3,7 +3,7 @@
 ghost use Rattle.std.specs.Prelude.{◌≡◌, false, ℕ, List, Some, length, IfOk, OnErr};
 ghost use Rattle.outside.specs.Causes.{HasCause};
 ghost use Rattle.outside.specs.Streams.{PutsAll};
-ghost use Rattle.space.specs.Memory.{ArePermitted};
+ghost use Rattle.machines.specs.Prelude.{ArePermitted};
 ghost use Rattle.runner.specs.Stepping.{StandAt};
 ghost use Rattle.runner.specs.Attending.{HasTaken, HasTakeCause, TakesInVain};
 

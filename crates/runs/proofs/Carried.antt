@@ -3,14 +3,9 @@ use Rattle.std.proofs.Common.{◌≡◌, ℕ, ◌+◌, ◌%◌, ◌^◌, ◌<◌
 use Rattle.std.proofs.lemmas.List.{take_more}
 use Rattle.space.specs.declared.call.End.TheVariants.{Exit, Outside}
 use Rattle.space.specs.Reports.{Write, given}
-use Rattle.runs.specs.declared.example.Word.{Word}
+use Rattle.runs.specs.Prelude.{Word, Op, Ends, Anywhere, IsNarrower, stays, walks, Advance, onward, called, over, lost, IsBounded, Advances, Guest, Host, guest_step, host_by, host_step, guarded_by, guarded_step, returned}
 use Rattle.runs.specs.declared.example.Word.TheVariants as word
-use Rattle.runs.specs.declared.example.Op.{Op}
 use Rattle.runs.specs.declared.example.Op.TheVariants as op
-use Rattle.runs.specs.Machine.{Ends, Anywhere}
-use Rattle.runs.specs.Laws.{IsNarrower}
-use Rattle.runs.specs.Simulation.{stays, walks, Advance, onward, called, over, lost, IsBounded, Advances}
-use Rattle.runs.specs.Example.{Guest, Host, guest_step, host_by, host_step, guarded_by, guarded_step, returned}
 
 -- With b in the buffer, p words since the block began and q ops since the last of them, the ops carry out the words.
 pub data Carries : ℕ → ℕ → ℕ → List Word → List Op → Type 0 where

@@ -2,9 +2,7 @@
 use Rattle.std.proofs.Common.{◌≡◌, ◌≢◌, ℕ, zero, suc, ◌+◌, List, [], ◌∷◌, ◌++◌, ◌⊎◌, inl, inr, refl, sym, ap, ◌∙◌, subst, arith}
 use Rattle.space.specs.declared.call.End.TheVariants.{Running, Exit, Outside}
 use Rattle.space.specs.Reports.{ListedCall, AnswerValue, ended, listed}
-use Rattle.runs.specs.Machine.{Outcome, Goes, Asks, Ends, reported, run, After, Along, Anywhere}
-use Rattle.runs.specs.Simulation.{Agreement, exits_at_once, goes_for_ever, MeetAtZero}
-use Rattle.runs.specs.Laws.{StaysOver, KeepsCalls, IsNarrower, StaysIn, SameRun, AgreesInLarger}
+use Rattle.runs.specs.Prelude.{Outcome, Goes, Asks, Ends, reported, run, After, Along, Anywhere, Agreement, exits_at_once, goes_for_ever, MeetAtZero, StaysOver, KeepsCalls, IsNarrower, StaysIn, SameRun, AgreesInLarger}
 
 module _ {S : Type 0} (step : S → Outcome S) where
   -- behind an outcome: a run that is over stays over

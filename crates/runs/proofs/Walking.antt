@@ -3,8 +3,7 @@ use Rattle.std.proofs.Common.{◌≡◌, ℕ, zero, suc, ◌+◌, ◌≤◌, Lis
 use Rattle.space.specs.declared.call.End.{End}
 use Rattle.space.specs.declared.call.End.TheVariants.{Running, Dry}
 use Rattle.space.specs.Reports.{ListedCall, AnswerValue, ended, listed}
-use Rattle.runs.specs.Machine.{Outcome, Asks, Ends, reported, run, After, Along}
-use Rattle.runs.specs.Simulation.{Walks, stays, walks}
+use Rattle.runs.specs.Prelude.{Outcome, Asks, Ends, reported, run, After, Along, Walks, stays, walks}
 
 module _ {S : Type 0} (P : S → Type 0) (step : S → Outcome S) where
   -- a run goes on from where a walk leads

@@ -2,3 +2,4 @@ pub mod Machine
 pub mod Laws
 pub mod Simulation
 pub mod Example
+pub mod Prelude

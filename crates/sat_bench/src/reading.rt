@@ -1,7 +1,7 @@
 //! Formulas and logs from text.
 ghost use Rattle.std.specs.Prelude.{◌≤◌, IfOk, IfSome};
 ghost use Rattle.std.specs.List.{All};
-ghost use Rattle.word_kit.specs.Formulas.{IsLiteral, IsFormula, AreClauses, variable};
+ghost use Rattle.word_kit.specs.Prelude.{IsLiteral, IsFormula, AreClauses, variable};
 
 use std::alloc::Global;
 use word_kit::{Clause, Clauses, Formula, NoMemory, Refutation};

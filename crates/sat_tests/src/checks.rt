@@ -1,7 +1,7 @@
 // Small formulas, worked by hand.
 ghost use Rattle.std.specs.Prelude.{◌≤◌, ◌<◌, IfOk};
 ghost use Rattle.std.specs.List.{All};
-ghost use Rattle.word_kit.specs.Formulas.{IsLiteral, AreClauses, variable};
+ghost use Rattle.word_kit.specs.Prelude.{IsLiteral, AreClauses, variable};
 
 use refute_check::{CheckFault, check};
 use std::alloc::Global;

@@ -1,7 +1,7 @@
 // Small formulas, worked by hand.
 ghost use Rattle.std.specs.Prelude.{◌≤◌, ◌<◌, IfOk};
 ghost use Rattle.std.specs.List.{All};
-ghost use Rattle.word_kit.specs.Formulas.{IsLiteral, IsFormula, AreClauses, variable};
+ghost use Rattle.word_kit.specs.Prelude.{IsLiteral, IsFormula, AreClauses, variable};
 
 use sat_core::{Verdict, solve};
 use std::alloc::Global;

@@ -1,24 +1,13 @@
 -- The tiles of flow words: they go on, call, or end.
 use Rattle.std.proofs.Common.{◌≡◌, ◌≢◌, ℕ, suc, ◌+◌, ◌*◌, ◌<◌, ◌≤◌, ◌⊎◌, inl, inr, List, length, Option, None, Contains, refl, sym, ap, ◌∙◌, subst, arith}
-use Rattle.space.specs.declared.call.End.{End}
+use Rattle.machines.specs.Prelude.{End, Outside, Map, Instr, IsMap, Outcome, Goes, Asks, Ends, Anywhere, Walks, stays, walks, onward, called, over, lost, Guest, guest_executes, Core, Host}
 use Rattle.space.specs.declared.call.End.TheVariants as ends
-use Rattle.space.specs.declared.call.End.TheVariants.{Outside}
-use Rattle.ppc_isa.specs.declared.map.Map.{Map}
-use Rattle.ppc_isa.specs.declared.instr.Instr.{Instr}
-use Rattle.ppc_isa.specs.Map.{IsMap}
-use Rattle.reg_map.specs.Home.{location_range}
+use Rattle.reg_map.specs.Prelude.{location_range}
 use Rattle.symbolic_tiles.specs.declared.flow_op.FlowOp.{FlowOp}
-use Rattle.runs.specs.Machine.{Outcome, Goes, Asks, Ends, Anywhere}
-use Rattle.runs.specs.Simulation.{Walks, stays, walks, onward, called, over, lost}
-use Rattle.machines.specs.Guest.{Guest, guest_executes}
-use Rattle.machines.specs.Host.{Core, Host}
-use Rattle.symbolic_tiles.specs.Flow.{leap_target, Exit, Leaves, Leaps, Stops, Calls, Falls, IsBefore, IsBehind, FitsGoing, Fits, flow}
-use Rattle.symbolic_tiles.specs.Standing.{EdgeCode, Reaches}
+use Rattle.symbolic_tiles.specs.Prelude.{leap_target, Exit, Leaves, Leaps, Stops, Calls, Falls, IsBefore, IsBehind, FitsGoing, Fits, flow, EdgeCode, Reaches}
 use Rattle.symbolic_tiles.proofs.Walked.{flows_are_walked}
-use Rattle.code_layout.specs.Places.{no_registers}
-use Rattle.simulation.specs.Context.{SimulationContext, MatchesState, Alike, AreAlike, StepKeepsUnwritten}
-use Rattle.simulation.specs.Plan.{EdgeAt, SwitchAt, LeapAt, DoorAt, FlowAt}
-use Rattle.simulation.specs.Relation.{Simulates, on_edge, IsTranslation}
+use Rattle.code_layout.specs.Prelude.{no_registers}
+use Rattle.simulation.specs.Prelude.{SimulationContext, MatchesState, Alike, AreAlike, StepKeepsUnwritten, EdgeAt, SwitchAt, LeapAt, DoorAt, FlowAt, Simulates, on_edge, IsTranslation}
 use Rattle.simulation.proofs.Full.{full, full_alike, full_represents, full_in_range, IsUnwritten, walk_keeps}
 use Rattle.simulation.proofs.Switches.{Steps, enters}
 use Rattle.simulation.proofs.Leaps.{Leapt}

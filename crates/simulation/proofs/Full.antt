@@ -1,15 +1,10 @@
 -- The guest that the host represents with nothing dead, and what every walk of the host keeps.
 use Rattle.std.proofs.Common.{◌≡◌, ℕ, ◌<◌, Bool, true, false, cond, ltb, Option, Some, None, refl, sym, ap, ◌∙◌, subst}
 use Rattle.std.proofs.lemmas.Bool.{ltb-true, lt-ltb}
-use Rattle.ppc_isa.specs.declared.map.Map.{Map}
-use Rattle.reg_map.specs.Home.{location_count, location_range}
-use Rattle.runs.specs.Machine.{Anywhere}
-use Rattle.runs.specs.Simulation.{Walks, stays, walks}
-use Rattle.machines.specs.Guest.{Guest}
-use Rattle.machines.specs.Host.{Core, Host, value_at}
-use Rattle.reg_map.specs.Representation.{location_place, Represents, AreInRange}
-use Rattle.symbolic_tiles.specs.Row.{GoesThrough, Any}
-use Rattle.simulation.specs.Context.{SimulationContext, MatchesState, Alike, StepKeepsUnwritten}
+use Rattle.machines.specs.Prelude.{Map, Anywhere, Walks, stays, walks, Guest, Core, Host, value_at}
+use Rattle.reg_map.specs.Prelude.{location_count, location_range, location_place, Represents, AreInRange}
+use Rattle.symbolic_tiles.specs.Prelude.{GoesThrough, Any}
+use Rattle.simulation.specs.Prelude.{SimulationContext, MatchesState, Alike, StepKeepsUnwritten}
 
 -- the guest with the values that the places have, and beyond the locations its own
 abbrev pub full : Map → ℕ → Core → Guest → Guest

@@ -2,25 +2,13 @@
 use Rattle.std.proofs.Common.{◌≡◌, ℕ, ◌+◌, ◌-◌, ◌*◌, ◌/◌, ◌%◌, ◌^◌, ◌<◌, ◌≤◌, ◌⊎◌, inl, inr, Bool, true, false, cond, not, ltb, List, map, drop, Option, Some, None, bit_and, refl, sym, ap, ◌∙◌, subst, arith}
 use Rattle.std.proofs.lemmas.Bool.Decides.{nat_tests}
 use Rattle.std.proofs.lemmas.Nat.Bits.{and_high_mask}
-use Rattle.ppc_isa.specs.declared.map.Map.{Map}
-use Rattle.ia_codec.specs.declared.op.Condition.TheVariants.{Below, NotBelow}
-use Rattle.ia_codec.specs.Rows.{condition_holds, difference_word, difference_flags}
-use Rattle.ia_codec.specs.Registers.{eax, ecx}
-use Rattle.reg_map.specs.Home.{home, home_size, location_range}
-use Rattle.reg_map.specs.Place.{slot_of}
-use Rattle.runs.specs.Machine.{Goes, Anywhere}
-use Rattle.runs.specs.Simulation.{Walks, stays, walks}
+use Rattle.machines.specs.Prelude.{Map, Below, NotBelow, condition_holds, difference_word, difference_flags, eax, ecx, Goes, Anywhere, Walks, stays, walks, update, load, each_byte, Guest, Choice, Core, Host, value_at, reads, jumps_to}
+use Rattle.reg_map.specs.Prelude.{home, home_size, location_range, slot_of, in_slot, location_place}
 use Rattle.runs.proofs.Walking.{join_walks}
-use Rattle.machines.specs.Memory.{update, load, each_byte}
-use Rattle.machines.specs.Guest.{Guest}
-use Rattle.machines.specs.Host.{Choice, Core, Host, Memory, value_at, reads, jumps_to}
-use Rattle.reg_map.specs.Representation.{in_slot, location_place}
-use Rattle.symbolic_tiles.specs.Row.{IsCore}
-use Rattle.symbolic_tiles.specs.Flow.{leap_target}
-use Rattle.code_layout.specs.Leap.{leap_ops}
-use Rattle.simulation.specs.Context.{SimulationContext, MatchesState}
-use Rattle.simulation.specs.Plan.{LeapAt}
-use Rattle.simulation.specs.Relation.{IsTranslation}
+use Rattle.machines.specs.Host.{Memory}
+use Rattle.symbolic_tiles.specs.Prelude.{IsCore, leap_target}
+use Rattle.code_layout.specs.Prelude.{leap_ops}
+use Rattle.simulation.specs.Prelude.{SimulationContext, MatchesState, LeapAt, IsTranslation}
 use Rattle.symbolic_tiles.proofs.Memory.{load_same, update_keeps}
 use Rattle.symbolic_tiles.proofs.Places.{slot_cached, each_of}
 use Rattle.symbolic_tiles.proofs.Walked.{ops_are_walked}

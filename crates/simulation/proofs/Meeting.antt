@@ -1,15 +1,9 @@
 -- The relation is kept by each kind of step, and leads back to a block or to `hold`.
 use Rattle.std.proofs.Common.{◌≡◌, ℕ, ◌+◌, ◌≤◌, ◌⊎◌, inl, inr, List, [], ◌∷◌, length, refl, sym, ◌∙◌, subst, arith}
-use Rattle.ppc_isa.specs.declared.map.Map.{Map}
-use Rattle.runs.specs.Machine.{Anywhere}
-use Rattle.runs.specs.Simulation.{Walks, stays, walks}
+use Rattle.machines.specs.Prelude.{Map, Anywhere, Walks, stays, walks, Guest, Host}
 use Rattle.runs.proofs.Walking.{join_walks}
-use Rattle.machines.specs.Guest.{Guest}
-use Rattle.machines.specs.Host.{Host}
-use Rattle.code_layout.specs.Places.{no_registers}
-use Rattle.simulation.specs.Context.{SimulationContext, IsOffCode, MatchesState}
-use Rattle.simulation.specs.Plan.{PlanStep, Move, Tile, BranchTile, FlowTile, word_count, room, HasFewMoves, SwitchAt, DoorAt, BlockAt, Begins}
-use Rattle.simulation.specs.Relation.{Simulates, at_block, on_edge, off_code, IsTranslation, Starts, SimulationIsBounded, SimulationAdvances, Settled, in_block, holding, SimulationSettles}
+use Rattle.code_layout.specs.Prelude.{no_registers}
+use Rattle.simulation.specs.Prelude.{SimulationContext, IsOffCode, MatchesState, PlanStep, Move, Tile, BranchTile, FlowTile, word_count, room, HasFewMoves, SwitchAt, DoorAt, BlockAt, Begins, Simulates, at_block, on_edge, off_code, IsTranslation, Starts, SimulationIsBounded, SimulationAdvances, Settled, in_block, holding, SimulationSettles}
 use Rattle.simulation.proofs.Switches.{Steps, jumped, moves, by_gone, enters, by_switch, by_move}
 use Rattle.simulation.proofs.Tiles.{by_tile, by_branch_tile}
 use Rattle.simulation.proofs.Flows.{by_flow}

@@ -1,18 +1,12 @@
 -- The code of a move leads from its map to the next.
 use Rattle.std.proofs.Common.{◌≡◌, ℕ, ◌*◌, ◌<◌, Bool, true, false, [], ◌∷◌, Some, None, if◌then◌else◌, sym, subst, arith}
 use Rattle.std.proofs.lemmas.Bool.Decides.{nat_tests}
-use Rattle.ppc_isa.specs.declared.map.Map.{Map}
-use Rattle.ia_codec.specs.declared.op.Op.TheVariants.{MovTo, MovFrom}
-use Rattle.ia_codec.specs.declared.op.Operand.TheVariants.{Abs}
-use Rattle.reg_map.specs.Home.{home}
+use Rattle.machines.specs.Prelude.{Map, MovTo, MovFrom, Abs}
+use Rattle.reg_map.specs.Prelude.{home, slot_register, moved_gpr, moved, move_op, is_live, MovesOne, IsHomePage}
 use Rattle.reg_map.specs.declared.moves.Move.{Move}
 use Rattle.reg_map.specs.declared.moves.Move.TheVariants.{Drop, Take}
-use Rattle.reg_map.specs.Moves.{slot_register, moved_gpr, moved, move_op, is_live, MovesOne}
 use Rattle.reg_map.proofs.Moving.{moves_move_one}
-use Rattle.reg_map.specs.Representation.{IsHomePage}
-use Rattle.simulation.specs.Context.{SimulationContext}
-use Rattle.simulation.specs.Plan.{IsMove}
-use Rattle.simulation.specs.Moves.{ops_in, MoveCodesMove}
+use Rattle.simulation.specs.Prelude.{SimulationContext, IsMove, ops_in, MoveCodesMove}
 use Rattle.simulation.proofs.Moves.{moves_keep}
 
 home_word : (g : ℕ) → g < 32 → home g ≡ 4 * g

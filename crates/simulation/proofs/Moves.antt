@@ -1,22 +1,11 @@
 -- A move of a GPR between its home and a register keeps the relation.
 use Rattle.std.proofs.Common.{◌≡◌, ◌≢◌, ℕ, ◌+◌, ◌^◌, ◌<◌, ◌⊎◌, Bool, true, false, [], ◌∷◌, Option, Some, None, refl, sym, ap, ◌∙◌, subst, ⊎_elim, arith}
 use Rattle.std.proofs.lemmas.Bool.Decides.{nat_tests}
-use Rattle.ppc_isa.specs.declared.map.Map.{Map}
-use Rattle.ppc_isa.specs.Map.{IsMap}
-use Rattle.ia_codec.specs.declared.op.Op.TheVariants.{MovTo, MovFrom}
-use Rattle.ia_codec.specs.declared.op.Operand.TheVariants.{Abs}
-use Rattle.reg_map.specs.Home.{home, home_size, location_range}
-use Rattle.reg_map.specs.Place.{slot_of}
-use Rattle.machines.specs.Memory.{load}
-use Rattle.machines.specs.Guest.{Guest}
-use Rattle.machines.specs.Host.{Choice, Core, Place, Register, Memory, value_at, put_at, reads, puts, bind}
-use Rattle.machines.specs.Host.{goes_to as host_goes_to}
-use Rattle.reg_map.specs.Representation.{in_slot, location_place, IsHomePage}
-use Rattle.symbolic_tiles.specs.Perform.{core_behind, perform}
-use Rattle.symbolic_tiles.specs.Row.{GoesThrough, IsCore}
-use Rattle.simulation.specs.Context.{SimulationContext, MatchesState}
-use Rattle.simulation.specs.Plan.{IsMove}
-use Rattle.simulation.specs.Relation.{MovesKeep}
+use Rattle.machines.specs.Prelude.{Map, IsMap, MovTo, MovFrom, Abs, load, Guest, Choice, Core, Place, Register, value_at, put_at, reads, puts, bind, goes_to as host_goes_to}
+use Rattle.reg_map.specs.Prelude.{home, home_size, location_range, slot_of, in_slot, location_place, IsHomePage}
+use Rattle.machines.specs.Host.{Memory}
+use Rattle.symbolic_tiles.specs.Prelude.{core_behind, perform, GoesThrough, IsCore}
+use Rattle.simulation.specs.Prelude.{SimulationContext, MatchesState, IsMove, MovesKeep}
 use Rattle.symbolic_tiles.proofs.Memory.{update_keeps, store_other, store_byte, load_word}
 use Rattle.symbolic_tiles.proofs.Places.{home_within, put_same, put_other, place_apart, place_fits, place_bytes, read_place, write_place}
 

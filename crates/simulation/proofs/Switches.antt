@@ -1,20 +1,12 @@
 -- Moves, edges and `hold`.
 use Rattle.std.proofs.Common.{◌≡◌, ℕ, zero, suc, ◌+◌, ◌*◌, ◌≤◌, ◌⊎◌, inl, inr, List, [], ◌∷◌, length, drop, refl, sym, ap, ◌∙◌, subst, arith}
 use Rattle.std.proofs.lemmas.List.{length-map}
-use Rattle.ppc_isa.specs.declared.map.Map.{Map}
-use Rattle.ia_codec.specs.declared.op.Op.{Op}
-use Rattle.runs.specs.Machine.{Anywhere, reported, run}
-use Rattle.runs.specs.Simulation.{Walks, stays, walks, Advance, onward, lost}
-use Rattle.machines.specs.Guest.{Guest}
-use Rattle.machines.specs.Host.{Choice, Core, Host}
-use Rattle.symbolic_tiles.specs.Perform.{perform}
-use Rattle.symbolic_tiles.specs.Standing.{OpsAt}
+use Rattle.machines.specs.Prelude.{Map, Op, Anywhere, reported, run, Walks, stays, walks, Advance, onward, lost, Guest, Choice, Core, Host}
+use Rattle.symbolic_tiles.specs.Prelude.{perform, OpsAt}
 use Rattle.symbolic_tiles.proofs.Walked.{ops_are_walked}
-use Rattle.code_layout.specs.Code.{op_at, ops_at}
-use Rattle.simulation.specs.Context.{SimulationContext, IsOffCode, JumpsTo, MatchesState}
-use Rattle.simulation.specs.Plan.{PlanStep, Move, word_count, room, HasFewMoves, IsMove, SwitchAt, BlockAt, Begins}
+use Rattle.code_layout.specs.Prelude.{op_at, ops_at}
+use Rattle.simulation.specs.Prelude.{SimulationContext, IsOffCode, JumpsTo, MatchesState, PlanStep, Move, word_count, room, HasFewMoves, IsMove, SwitchAt, BlockAt, Begins, Simulates, at_block, on_edge, off_code, IsTranslation, HoldHolds}
 use Rattle.simulation.proofs.Full.{goes_to}
-use Rattle.simulation.specs.Relation.{Simulates, at_block, on_edge, off_code, IsTranslation, HoldHolds}
 
 module _ (s : SimulationContext) where
   -- what the simulation is asked for from states that meet

@@ -1,24 +1,12 @@
 -- Tiles, and tiles with a branch.
 use Rattle.std.proofs.Common.{◌≡◌, ℕ, ◌+◌, ◌≤◌, Bool, true, false, cond, List, ◌∷◌, length, Some, refl, sym, ap, ◌∙◌, subst, arith}
 use Rattle.std.proofs.lemmas.List.{length-map}
-use Rattle.ppc_isa.specs.declared.map.Map.{Map}
-use Rattle.ppc_isa.specs.declared.instr.Instr.{Instr}
-use Rattle.ia_codec.specs.declared.op.Op.{Op}
-use Rattle.ia_codec.specs.declared.op.Condition.{Condition}
-use Rattle.ia_codec.specs.Rows.{condition_holds}
-use Rattle.runs.specs.Machine.{Outcome, Goes, Asks, Ends, Anywhere}
-use Rattle.runs.specs.Simulation.{Walks, stays, walks, onward, lost}
+use Rattle.machines.specs.Prelude.{Map, Instr, Op, Condition, condition_holds, Outcome, Goes, Asks, Ends, Anywhere, Walks, stays, walks, onward, lost, Guest, Choice, Core, Host}
 use Rattle.runs.proofs.Walking.{join_walks}
-use Rattle.machines.specs.Guest.{Guest}
-use Rattle.machines.specs.Host.{Choice, Core, Host}
-use Rattle.symbolic_tiles.specs.Perform.{perform}
-use Rattle.symbolic_tiles.specs.Row.{Window, TilePrecondition, TilePostcondition}
+use Rattle.symbolic_tiles.specs.Prelude.{perform, Window, TilePrecondition, TilePostcondition}
 use Rattle.symbolic_tiles.proofs.Walked.{ops_are_walked}
-use Rattle.simulation.specs.Windows.{rows_of, behind_all}
-use Rattle.code_layout.specs.Code.{op_at, ops_at}
-use Rattle.simulation.specs.Context.{SimulationContext, MatchesState}
-use Rattle.simulation.specs.Plan.{PlanStep, Tile, BranchTile, word_count, room, HasFewMoves, EdgeAt, SwitchAt, TileAt, IsUnneeded, BlockAt}
-use Rattle.simulation.specs.Relation.{at_block, on_edge, IsTranslation}
+use Rattle.simulation.specs.Prelude.{rows_of, behind_all, SimulationContext, MatchesState, PlanStep, Tile, BranchTile, word_count, room, HasFewMoves, EdgeAt, SwitchAt, TileAt, IsUnneeded, BlockAt, at_block, on_edge, IsTranslation}
+use Rattle.code_layout.specs.Prelude.{op_at, ops_at}
 use Rattle.simulation.proofs.Windows.{Passes, is_next, words_pass, other_goes}
 use Rattle.simulation.proofs.Full.{goes_to, full, full_alike, full_represents, full_in_range, walk_keeps}
 use Rattle.simulation.proofs.Switches.{Steps, jumped}

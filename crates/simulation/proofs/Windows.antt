@@ -1,14 +1,8 @@
 -- The guest's own steps through a window of words, and through it from a guest that is alike.
 use Rattle.std.proofs.Common.{◌≡◌, ℕ, suc, ◌≤◌, List, [], ◌∷◌, length, Some, refl, sym, ap, ◌∙◌, subst, arith}
-use Rattle.space.specs.declared.call.End.TheVariants.{Outside}
-use Rattle.ppc_isa.specs.declared.instr.Instr.{Instr}
-use Rattle.runs.specs.Machine.{Outcome, Goes, Asks, Ends, Anywhere}
-use Rattle.runs.specs.Simulation.{Walks, stays, walks}
-use Rattle.machines.specs.Guest.{Guest, guest_acts, effect_of, behind}
-use Rattle.symbolic_tiles.specs.Straight.{IsStraight}
-use Rattle.simulation.specs.Windows.{then_row, rows_of, IsQuiet, IsLinked}
-use Rattle.simulation.specs.Context.{SimulationContext, IsWordAt, Alike, AreAlike, LiveIsEnough}
-use Rattle.simulation.specs.Plan.{AreWordsAt}
+use Rattle.machines.specs.Prelude.{Outside, Instr, Outcome, Goes, Asks, Ends, Anywhere, Walks, stays, walks, Guest, guest_acts, effect_of, behind}
+use Rattle.symbolic_tiles.specs.Prelude.{IsStraight}
+use Rattle.simulation.specs.Prelude.{then_row, rows_of, IsQuiet, IsLinked, SimulationContext, IsWordAt, Alike, AreAlike, LiveIsEnough, AreWordsAt}
 
 module _ (s : SimulationContext) where
   -- where the words begin; with none left nothing is asked

@@ -1,19 +1,8 @@
 -- The two machines between which a simulation is told, and what each step of theirs leaves alone. This project's own.
 use Rattle.std.specs.Prelude.{◌≡◌, ℕ, ◌+◌, ◌*◌, ◌%◌, ◌^◌, ◌<◌, ◌≤◌, ◌⊎◌, Bool, true, false, cond, drop, Option}
-use Rattle.space.specs.declared.call.End.TheVariants.{Outside}
-use Rattle.space.specs.Reports.{AnswerValue}
-use Rattle.ppc_isa.specs.declared.instr.Instr.{Instr}
-use Rattle.ppc_isa.specs.declared.map.Map.{Map}
-use Rattle.ppc_isa.specs.Map.{IsMap}
-use Rattle.ia_codec.specs.declared.op.Condition.{Condition}
-use Rattle.ia_codec.specs.Rows.{condition_holds}
-use Rattle.reg_map.specs.Home.{location_count, location_range}
-use Rattle.runs.specs.Machine.{Outcome, Goes, Asks, Ends}
-use Rattle.machines.specs.Memory.{Rights, load}
-use Rattle.machines.specs.Guest.{Guest, guest_executes}
-use Rattle.machines.specs.Host.{Core, Host, value_at}
-use Rattle.reg_map.specs.Representation.{location_place, Represents}
-use Rattle.symbolic_tiles.specs.Row.{IsCore}
+use Rattle.machines.specs.Prelude.{Outside, AnswerValue, Instr, Map, IsMap, Condition, condition_holds, Outcome, Goes, Asks, Ends, Rights, load, Guest, guest_executes, Core, Host, value_at}
+use Rattle.reg_map.specs.Prelude.{location_count, location_range, location_place, Represents}
+use Rattle.symbolic_tiles.specs.Prelude.{IsCore}
 
 -- What no step changes: the rights to memory, the home page's address, the bytes that the written file lays out, both
 -- machines, where `hold` stands; for each guest address the register map under which the block there begins and the

@@ -3,3 +3,4 @@ pub mod Context
 pub mod Plan
 pub mod Relation
 pub mod Moves
+pub mod Prelude

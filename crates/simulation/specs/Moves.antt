@@ -1,11 +1,8 @@
 -- The code of a move of a register map, in a plan.
 use Rattle.std.specs.Prelude.{◌≡◌, ℕ, List, [], ◌∷◌, Option, Some, None}
-use Rattle.ppc_isa.specs.declared.map.Map.{Map}
-use Rattle.ppc_isa.specs.Map.{IsMap}
-use Rattle.ia_codec.specs.declared.op.Op.{Op}
+use Rattle.machines.specs.Prelude.{Map, IsMap, Op}
 use Rattle.reg_map.specs.declared.moves.Move.{Move}
-use Rattle.reg_map.specs.Moves.{IsPossible, moved_gpr, moved, is_live, move_code}
-use Rattle.reg_map.specs.Representation.{IsHomePage}
+use Rattle.reg_map.specs.Prelude.{IsPossible, moved_gpr, moved, is_live, move_code, IsHomePage}
 use Rattle.simulation.specs.Context.{SimulationContext}
 use Rattle.simulation.specs.Plan.{IsMove}
 

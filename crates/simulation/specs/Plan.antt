@@ -1,24 +1,10 @@
 -- Plans, and their code at addresses of the host. This project's own.
 use Rattle.std.specs.Prelude.{◌≡◌, ℕ, ◌+◌, ◌<◌, ◌≤◌, ◌⊎◌, true, false, cond, List, [], ◌∷◌, length, Option, Some, None, Contains}
-use Rattle.ppc_isa.specs.declared.instr.Instr.{Instr}
-use Rattle.ppc_isa.specs.declared.map.Map.{Map}
-use Rattle.ia_codec.specs.declared.op.Op.{Op}
-use Rattle.ia_codec.specs.declared.op.Condition.{Condition}
-use Rattle.ia_codec.specs.declared.op.Condition.TheVariants.{NotBelow}
-use Rattle.ia_codec.specs.declared.op.Operand.TheVariants.{Base}
-use Rattle.ia_codec.specs.declared.op.Op.TheVariants.{JmpTo}
+use Rattle.machines.specs.Prelude.{Instr, Map, Op, Condition, NotBelow, Base, JmpTo, Goes, Guest, guest_executes, behind, Choice, Core}
 use Rattle.symbolic_tiles.specs.declared.flow_op.FlowOp.{FlowOp}
-use Rattle.runs.specs.Machine.{Goes}
-use Rattle.machines.specs.Guest.{Guest, guest_executes, behind}
-use Rattle.machines.specs.Host.{Choice, Core}
-use Rattle.symbolic_tiles.specs.Perform.{perform}
-use Rattle.symbolic_tiles.specs.Row.{Window, GoesThrough, Implements}
-use Rattle.symbolic_tiles.specs.Flow.{IsBefore, Fits, flow}
-use Rattle.symbolic_tiles.specs.Standing.{OpAt, OpsAt, EdgeCode, ItemsAt}
+use Rattle.symbolic_tiles.specs.Prelude.{perform, Window, GoesThrough, Implements, IsBefore, Fits, flow, OpAt, OpsAt, EdgeCode, ItemsAt}
 use Rattle.simulation.specs.Windows.{rows_of, behind_all, IsLinked}
-use Rattle.code_layout.specs.Leap.{leap_ops}
-use Rattle.code_layout.specs.Places.{no_registers}
-use Rattle.code_layout.specs.Code.{ops_at}
+use Rattle.code_layout.specs.Prelude.{leap_ops, no_registers, ops_at}
 use Rattle.simulation.specs.Context.{SimulationContext, IsWordAt, JumpsTo, ForksAt, MatchesState}
 
 -- A step of a block's plan, whose ops aren't over the home page yet: a move to another register map; a tile of ops for

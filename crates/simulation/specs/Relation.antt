@@ -1,20 +1,9 @@
 -- The relation between guest and host that every step of a plan keeps. This project's own.
 use Rattle.std.specs.Prelude.{◌≢◌, ◌<◌, false, [], ◌∷◌, Some, None, ◌≡◌, ℕ, ◌+◌, ◌*◌, ◌≤◌, ◌⊎◌, List, length}
-use Rattle.space.specs.Reports.{AnswerValue, ended}
-use Rattle.space.specs.declared.call.End.TheVariants.{Running}
-use Rattle.ppc_isa.specs.declared.map.Map.{Map}
-use Rattle.ppc_isa.specs.Map.{IsMap}
-use Rattle.ia_codec.specs.declared.op.Op.TheVariants.{MovTo, MovFrom}
-use Rattle.ia_codec.specs.declared.op.Operand.TheVariants.{Abs}
-use Rattle.reg_map.specs.Home.{home}
-use Rattle.reg_map.specs.Place.{slot_of}
-use Rattle.runs.specs.Machine.{Anywhere, run, AgreesFrom}
-use Rattle.runs.specs.Simulation.{IsBounded, Advances, Walks}
-use Rattle.machines.specs.Guest.{Guest}
-use Rattle.machines.specs.Host.{Host}
-use Rattle.reg_map.specs.Representation.{IsHomePage, HasSegments}
-use Rattle.symbolic_tiles.specs.Row.{WritesHeld}
-use Rattle.code_layout.specs.Places.{no_registers}
+use Rattle.machines.specs.Prelude.{AnswerValue, ended, Running, Map, IsMap, MovTo, MovFrom, Abs, Anywhere, run, AgreesFrom, IsBounded, Advances, Walks, Guest, Host}
+use Rattle.reg_map.specs.Prelude.{home, slot_of, IsHomePage, HasSegments}
+use Rattle.symbolic_tiles.specs.Prelude.{WritesHeld}
+use Rattle.code_layout.specs.Prelude.{no_registers}
 use Rattle.simulation.specs.Context.{SimulationContext, HasTable, IsOffCode, JumpsTo, MatchesState, StepKeepsUnwritten, LiveIsEnough}
 use Rattle.simulation.specs.Plan.{PlanStep, word_count, room, HasFewMoves, IsMove, SwitchAt, DoorAt, BlockAt, Begins}
 

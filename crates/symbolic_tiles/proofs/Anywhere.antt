@@ -1,16 +1,7 @@
 -- An op that is no jump does the same at every place in the code.
 use Rattle.std.proofs.Common.{◌≡◌, ℕ, Bool, true, false, cond, ◌||◌, eqb, Option, Some, None, refl}
-use Rattle.space.specs.Reports.{ListedCall, Read, Write, Close, Given, Gives, Fails, given}
-use Rattle.ia_codec.specs.declared.op.Op.{Op}
-use Rattle.ia_codec.specs.declared.op.Op.TheVariants.{Unary, Jcc, Jmp, JmpTo, Int80, Int3, Ud2}
-use Rattle.ia_codec.specs.declared.op.UnaryOp.{UnaryOp}
-use Rattle.ia_codec.specs.declared.op.UnaryOp.TheVariants.{Div, Idiv}
-use Rattle.ia_codec.specs.declared.op.Operand.{Operand}
-use Rattle.runs.specs.Machine.{Outcome, Asks}
-use Rattle.machines.specs.Memory.{Rights, block, each_byte}
-use Rattle.machines.specs.Host.{Core, Host, place_of, choice_at, reads, does, goes_to, faults_on, divides, unary_acts, after_host_call, host_asks, host_system_call, plain}
-use Rattle.symbolic_tiles.specs.Perform.{then_at}
-use Rattle.symbolic_tiles.specs.Laws.{OpsStandAnywhere}
+use Rattle.machines.specs.Prelude.{ListedCall, Read, Write, Close, Given, Gives, Fails, given, Op, Unary, Jcc, Jmp, JmpTo, Int80, Int3, Ud2, UnaryOp, Div, Idiv, Operand, Outcome, Asks, Rights, block, each_byte, Core, Host, place_of, choice_at, reads, does, goes_to, faults_on, divides, unary_acts, after_host_call, host_asks, host_system_call, plain}
+use Rattle.symbolic_tiles.specs.Prelude.{then_at, OpsStandAnywhere}
 
 module _ (rights : Rights) (next : ℕ) (h : Host) where
   abbrev at_zero : Host

@@ -1,30 +1,14 @@
 -- A tile whose ops do to a state what the row does to the guest does the row, under every map.
 use Rattle.std.proofs.Common.{◌≡◌, ◌≢◌, ℕ, ◌+◌, ◌%◌, ◌^◌, ◌<◌, ◌≤◌, Bool, true, false, cond, ltb, ◌⊎◌, inl, inr, List, [], ◌∷◌, map, drop, Contains, Option, Some, None, refl, sym, ap, ◌∙◌, subst, ⊎_elim, arith}
 use Rattle.std.proofs.lemmas.Bool.Decides.{nat_tests}
-use Rattle.word_kit.specs.Products.{divide_faults}
-use Rattle.ppc_isa.specs.declared.map.Map.{Map}
-use Rattle.ppc_isa.specs.declared.instr.Instr.{Instr}
-use Rattle.ppc_isa.specs.Legal.{IsLegal}
-use Rattle.ppc_isa.specs.Locations.{locations_written}
-use Rattle.ia_codec.specs.declared.op.Condition.{Condition}
-use Rattle.ia_codec.specs.Effect.{Flags, HostEffect}
-use Rattle.reg_map.specs.Home.{home, home_size, location_range}
-use Rattle.reg_map.specs.Place.{slot_of}
-use Rattle.runs.specs.Machine.{Outcome, Goes}
-use Rattle.machines.specs.Memory.{update, Rights}
-use Rattle.machines.specs.Guest.{Guest, effect_of, guest_acts}
-use Rattle.machines.specs.Host.{Choice, choice_at, Core, Memory, value_at, has_result}
-use Rattle.reg_map.specs.Representation.{location_place, AreInRange, in_slot}
-use Rattle.symbolic_tiles.specs.Perform.{perform}
-use Rattle.symbolic_tiles.specs.Relocated.{op_at}
-use Rattle.symbolic_tiles.specs.Row.{GoesThrough, TilePostcondition, window_of, loaded, stored, DoesRow, WritesHeld}
+use Rattle.machines.specs.Prelude.{divide_faults, Map, Instr, IsLegal, locations_written, Condition, Flags, HostEffect, Outcome, Goes, update, Rights, Guest, effect_of, guest_acts, Choice, choice_at, Core, value_at, has_result}
+use Rattle.reg_map.specs.Prelude.{home, home_size, location_range, slot_of, location_place, AreInRange, in_slot}
+use Rattle.machines.specs.Host.{Memory}
+use Rattle.symbolic_tiles.specs.Prelude.{perform, op_at, GoesThrough, TilePostcondition, window_of, loaded, stored, DoesRow, WritesHeld, IsFree, SymbolicOp, Mov, MovImmediate, Put, PutImmediate, Alu, AluImmediate, Test, TestImmediate, Invert, Negate, Multiply, MultiplyWide, Divide, ShiftBy, ShiftCl, Widen, SwapBytes, MoveIf, Scan, Signs, FetchByte, PutByte, SetByte, Load, Store, op_of, ops_of, IsTemporary, IsWellFormed, AreWellFormed, SymbolicState, with_effect, execute_op, then_ops, execute_ops, can_load, can_store, size_of}
 use Rattle.row_laws.specs.Laws.{Next, AgreeBut}
 use Rattle.symbolic_tiles.proofs.Memory.{update_other}
 use Rattle.symbolic_tiles.proofs.Places.{content, slot_content, slot_gpr}
-use Rattle.symbolic_tiles.specs.TileItems.{IsFree}
 use Rattle.row_laws.proofs.Changes.{changes}
-use Rattle.symbolic_tiles.specs.SymbolicOps.{SymbolicOp, Mov, MovImmediate, Put, PutImmediate, Alu, AluImmediate, Test, TestImmediate, Invert, Negate, Multiply, MultiplyWide, Divide, ShiftBy, ShiftCl, Widen, SwapBytes, MoveIf, Scan, Signs, FetchByte, PutByte, SetByte, Load, Store, op_of, ops_of, IsTemporary, IsWellFormed, AreWellFormed}
-use Rattle.symbolic_tiles.specs.SymbolicState.{SymbolicState, with_effect, execute_op, then_ops, execute_ops, can_load, can_store, size_of}
 use Rattle.symbolic_tiles.proofs.Shows.{is_temporary, Shows, Kept, shows_ops}
 
 -- a location's value fits its home

@@ -1,30 +1,13 @@
 -- A flow tile whose items do to a state what the row does to the guest does the row, under every map.
 use Rattle.std.proofs.Common.{◌≡◌, ℕ, ◌+◌, ◌-◌, ◌*◌, ◌/◌, ◌%◌, ◌^◌, ◌<◌, ◌≤◌, Bool, true, false, cond, eqb, ◌⊎◌, inl, inr, List, [], ◌∷◌, drop, Option, Some, None, refl, sym, ap, ◌∙◌, subst, arith}
 use Rattle.std.proofs.lemmas.Bool.{eqb-true}
-use Rattle.space.specs.declared.call.End.TheVariants.{Outside}
-use Rattle.space.specs.Reports.{AnswerValue}
-use Rattle.ppc_isa.specs.declared.map.Map.{Map}
-use Rattle.ppc_isa.specs.declared.instr.Instr.{Instr}
-use Rattle.ppc_isa.specs.Map.{IsMap}
-use Rattle.ia_codec.specs.declared.op.Condition.{Condition}
-use Rattle.ia_codec.specs.Effect.{Flags}
-use Rattle.ia_codec.specs.Rows.{condition_holds}
-use Rattle.reg_map.specs.Home.{location_count, location_range}
-use Rattle.runs.specs.Machine.{Outcome, Goes, Asks, Ends}
-use Rattle.machines.specs.Memory.{update, each_byte, Rights}
-use Rattle.machines.specs.Guest.{Guest, guest_executes}
-use Rattle.machines.specs.Host.{Choice, choice_at, Core}
-use Rattle.reg_map.specs.Representation.{AreInRange, IsHomePage}
-use Rattle.symbolic_tiles.specs.Row.{WritesHeld}
-use Rattle.symbolic_tiles.specs.SymbolicOps.{SymbolicOp, AreWellFormed}
-use Rattle.symbolic_tiles.specs.Flow.{Exit, flow, IsBefore, FitsGoing, Fits, FlowDoesWord}
-use Rattle.symbolic_tiles.specs.TileItems.{TileItem, JumpIf, flows_of, doing, AreItems}
+use Rattle.machines.specs.Prelude.{Outside, AnswerValue, Map, Instr, IsMap, Condition, Flags, condition_holds, Outcome, Goes, Asks, Ends, update, each_byte, Rights, Guest, guest_executes, Choice, choice_at, Core}
+use Rattle.reg_map.specs.Prelude.{location_count, location_range, AreInRange, IsHomePage}
+use Rattle.symbolic_tiles.specs.Prelude.{WritesHeld, SymbolicOp, AreWellFormed, Exit, flow, IsBefore, FitsGoing, Fits, FlowDoesWord, TileItem, JumpIf, flows_of, doing, AreItems, SymbolicState, execute_op, then_ops, execute_ops, SymbolicExit, Out, Indirect, Stopped, Called, Unknown, then_exit, execute}
 use Rattle.symbolic_tiles.proofs.Places.{free_low}
-use Rattle.symbolic_tiles.specs.SymbolicState.{SymbolicState, execute_op, then_ops, execute_ops}
 use Rattle.symbolic_tiles.proofs.Shows.{Shows, bytes_held}
 use Rattle.symbolic_tiles.proofs.Done.{state_of, range_size, IsStateOf}
 use Rattle.symbolic_tiles.proofs.Results.{Then}
-use Rattle.symbolic_tiles.specs.SymbolicExit.{SymbolicExit, Out, Indirect, Stopped, Called, Unknown, then_exit, execute}
 use Rattle.symbolic_tiles.proofs.Relates.{Relates, items_relate}
 
 -- the symbolic_exit out leads to the guest's next address, with the guest's next state

@@ -1,14 +1,9 @@
 -- What is neither the guest's nor a home in use, in plain terms.
 use Rattle.std.proofs.Common.{◌≡◌, ◌≢◌, ℕ, ◌+◌, ◌<◌, ◌≤◌, ◌⊎◌, inl, inr, Bool, true, false, Option, Some, None, refl, sym, ap, ◌∙◌, arith}
-use Rattle.ppc_isa.specs.declared.map.Map.{Map}
-use Rattle.reg_map.specs.Home.{home, home_size}
-use Rattle.reg_map.specs.Place.{slot_of}
-use Rattle.reg_map.specs.Representation.{IsHomePage}
-use Rattle.machines.specs.Memory.{Rights}
+use Rattle.machines.specs.Prelude.{Map, Rights, Core}
+use Rattle.reg_map.specs.Prelude.{home, home_size, slot_of, IsHomePage}
 use Rattle.machines.proofs.Homes.{homes_apart}
-use Rattle.machines.specs.Host.{Core}
-use Rattle.symbolic_tiles.specs.Row.{GoesThrough, IsUnowned}
-use Rattle.symbolic_tiles.specs.Laws.{LoadsKeepMemory}
+use Rattle.symbolic_tiles.specs.Prelude.{GoesThrough, IsUnowned, LoadsKeepMemory}
 use Rattle.symbolic_tiles.proofs.Places.{home_within}
 
 module _ (m : Map) (area : ℕ) (guest host : Rights) (page : IsHomePage area guest host) where

@@ -1,18 +1,8 @@
 -- How many bytes the ops of tiles have, and how many ops there are.
 use Rattle.std.proofs.Common.{◌≡◌, ℕ, ◌+◌, ◌*◌, ◌≤◌, Bool, true, false, List, [], ◌∷◌, ◌++◌, length, map, Option, Some, None, refl, sym, ap, arith}
-use Rattle.ppc_isa.specs.declared.map.Map.{Map}
-use Rattle.ia_codec.specs.declared.op.AluOp.{AluOp}
-use Rattle.ia_codec.specs.declared.op.Operand.{Operand}
-use Rattle.ia_codec.specs.declared.op.Operand.TheVariants.{Reg, Abs}
-use Rattle.ia_codec.specs.declared.op.Op.{Op}
-use Rattle.ia_codec.specs.declared.op.Op.TheVariants.{Unary, MovTo, MovToImm, Imul, Bsr}
-use Rattle.ia_codec.specs.Spelling.{spelling}
-use Rattle.reg_map.specs.Place.{slot_of, place, place_in}
-use Rattle.reg_map.specs.Spelled.{mov_from, alu_from}
-use Rattle.symbolic_tiles.specs.SymbolicOps.{SymbolicOperand, Temporary, Location, Byte, Half, Word, SymbolicOp, Mov, MovImmediate, Put, PutImmediate, Alu, AluImmediate, Test, TestImmediate, Invert, Negate, Multiply, MultiplyWide, Divide, ShiftBy, ShiftCl, Widen, SwapBytes, MoveIf, Scan, Signs, FetchByte, PutByte, SetByte, Load, Store, operand_of, wide_op, op_of, ops_of}
-use Rattle.symbolic_tiles.specs.TileItems.{TileItem, Do, JumpIf, Label, LoadEbx, BranchTo, BranchIndirect, Interrupt, Trap, Undefined, flow_of, flows_of, doing}
-use Rattle.symbolic_tiles.specs.Marks.{flow_room, flows_room}
-use Rattle.symbolic_tiles.specs.Tiles.{most_bytes, room_of, spelled_bytes}
+use Rattle.machines.specs.Prelude.{Map, AluOp, Operand, Reg, Abs, Op, Unary, MovTo, MovToImm, Imul, Bsr, spelling}
+use Rattle.reg_map.specs.Prelude.{slot_of, place, place_in, mov_from, alu_from}
+use Rattle.symbolic_tiles.specs.Prelude.{SymbolicOperand, Temporary, Location, Byte, Half, Word, SymbolicOp, Mov, MovImmediate, Put, PutImmediate, Alu, AluImmediate, Test, TestImmediate, Invert, Negate, Multiply, MultiplyWide, Divide, ShiftBy, ShiftCl, Widen, SwapBytes, MoveIf, Scan, Signs, FetchByte, PutByte, SetByte, Load, Store, operand_of, wide_op, op_of, ops_of, TileItem, Do, JumpIf, Label, LoadEbx, BranchTo, BranchIndirect, Interrupt, Trap, Undefined, flow_of, flows_of, doing, flow_room, flows_room, most_bytes, room_of, spelled_bytes}
 
 -- an op with an operand has no more bytes than with a home
 by_operand : (m : Map) (source : SymbolicOperand) (f : Operand → Op) (n : ℕ) → ((r : ℕ) → length (spelling (f (Reg r))) ≤ n) → ((d : ℕ) → length (spelling (f (Abs d))) ≤ n) → length (spelling (f (operand_of m source))) ≤ n

@@ -1,10 +1,8 @@
 -- What places hold and how they are written; what a program may write.
 use Rattle.std.proofs.Common.{◌≡◌, ◌≢◌, ℕ, Bool, true, false, ◌&&◌, ◌||◌, ◌⊎◌, List, [], ◌∷◌, length, Some, refl, sym, ap, ◌∙◌, subst, ⊎_elim, arith}
-use Rattle.space.specs.declared.program.Segment.{Segment}
-use Rattle.machines.specs.Memory.{update, is_within, is_held, is_writable}
-use Rattle.machines.specs.Host.{value_at, put_at}
-use Rattle.reg_map.specs.Representation.{location_place}
-use Rattle.symbolic_tiles.specs.Laws.{PlacesAreRead, PlacesAreWritten, ProgramsWriteHeld}
+use Rattle.machines.specs.Prelude.{Segment, update, is_within, is_held, is_writable, value_at, put_at}
+use Rattle.reg_map.specs.Prelude.{location_place}
+use Rattle.symbolic_tiles.specs.Prelude.{PlacesAreRead, PlacesAreWritten, ProgramsWriteHeld}
 use Rattle.symbolic_tiles.proofs.Memory.{update_same, update_other}
 use Rattle.symbolic_tiles.proofs.Places.{put_same, put_other, place_apart, place_fits, place_bytes, place_unowned, place_registers, read_place, write_place}
 

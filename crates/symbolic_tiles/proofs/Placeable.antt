@@ -1,20 +1,8 @@
 -- The ops of ops and items are in the profile, over each home page and under each map.
 use Rattle.std.proofs.Common.{◌≡◌, ℕ, zero, suc, ◌+◌, ◌^◌, ◌<◌, ◌≤◌, Bool, true, false, List, [], ◌∷◌, Option, Some, None, if◌then◌else◌, All, refl, subst, arith}
-use Rattle.ppc_isa.specs.declared.map.Map.{Map}
-use Rattle.ppc_isa.specs.Map.{IsMap}
-use Rattle.ia_codec.specs.declared.op.AluOp.{AluOp}
-use Rattle.ia_codec.specs.declared.op.Op.TheVariants.{MovToImm}
-use Rattle.ia_codec.specs.declared.op.ExtendOp.TheVariants.{MovzxByte, MovzxHalf, MovsxByte, MovsxHalf}
-use Rattle.ia_codec.specs.declared.op.Operand.{Operand}
-use Rattle.ia_codec.specs.declared.op.Operand.TheVariants.{Reg, Abs, Base, Pair}
-use Rattle.ia_codec.specs.Spelling.{IsReg, IsOperand, IsInProfile}
-use Rattle.reg_map.specs.Home.{home}
-use Rattle.reg_map.specs.Place.{slot_of, place, place_in, holds}
-use Rattle.reg_map.specs.Spelled.{mov_from, alu_from}
-use Rattle.reg_map.specs.Relocated.{operand_at, op_at, IsPlaceable}
-use Rattle.symbolic_tiles.specs.SymbolicOps.{SymbolicOperand, Temporary, Location, Byte, Half, Word, SymbolicOp, Mov, MovImmediate, Put, PutImmediate, Alu, AluImmediate, Test, TestImmediate, Invert, Negate, Multiply, MultiplyWide, Divide, ShiftBy, ShiftCl, Widen, SwapBytes, MoveIf, Scan, Signs, FetchByte, PutByte, SetByte, Load, Store, operand_of, op_of, AreWellFormed, ops_of, IsTemporary, IsSymbolicOperand, IsByte, IsWellFormed}
-use Rattle.symbolic_tiles.specs.TileItems.{AreItems, TileItem, Do, JumpIf, Label, LoadEbx, BranchTo, BranchIndirect, Interrupt, Trap, Undefined, flows_of}
-use Rattle.symbolic_tiles.specs.Marks.{AreLaid}
+use Rattle.machines.specs.Prelude.{Map, IsMap, AluOp, MovToImm, MovzxByte, MovzxHalf, MovsxByte, MovsxHalf, Operand, Reg, Abs, Base, Pair, IsReg, IsOperand, IsInProfile}
+use Rattle.reg_map.specs.Prelude.{home, slot_of, place, place_in, holds, mov_from, alu_from, operand_at, op_at, IsPlaceable}
+use Rattle.symbolic_tiles.specs.Prelude.{SymbolicOperand, Temporary, Location, Byte, Half, Word, SymbolicOp, Mov, MovImmediate, Put, PutImmediate, Alu, AluImmediate, Test, TestImmediate, Invert, Negate, Multiply, MultiplyWide, Divide, ShiftBy, ShiftCl, Widen, SwapBytes, MoveIf, Scan, Signs, FetchByte, PutByte, SetByte, Load, Store, operand_of, op_of, AreWellFormed, ops_of, IsTemporary, IsSymbolicOperand, IsByte, IsWellFormed, AreItems, TileItem, Do, JumpIf, Label, LoadEbx, BranchTo, BranchIndirect, Interrupt, Trap, Undefined, flows_of, AreLaid}
 use Rattle.symbolic_tiles.proofs.Places.{slot_gpr, home_within}
 use Rattle.symbolic_tiles.proofs.Shows.{is_temporary, byte_size}
 

@@ -2,16 +2,11 @@
 use Rattle.std.proofs.Common.{◌≡◌, ◌≢◌, ℕ, zero, suc, ◌+◌, ◌%◌, ◌^◌, ◌<◌, ◌≤◌, Bool, true, false, cond, eqb, ◌⊎◌, Option, Some, None, if◌then◌else◌, refl, sym, ap, ◌∙◌, subst, arith}
 use Rattle.std.proofs.lemmas.Bool.{eqb-true}
 use Rattle.std.proofs.lemmas.Bool.Decides.{nat_tests}
-use Rattle.ppc_isa.specs.declared.map.Map.{Map}
-use Rattle.ppc_isa.specs.Map.{IsMap, IsHeld}
-use Rattle.reg_map.specs.Home.{home, home_size}
-use Rattle.reg_map.specs.Place.{slot_of, holds}
-use Rattle.machines.specs.Memory.{load, each_byte, Rights}
-use Rattle.machines.specs.Host.{Core, Place, Register, Memory, value_at, put_at, reads, puts}
-use Rattle.reg_map.specs.Representation.{in_slot, location_place, IsHomePage}
+use Rattle.machines.specs.Prelude.{Map, IsMap, IsHeld, load, each_byte, Rights, Core, Place, Register, value_at, put_at, reads, puts}
+use Rattle.reg_map.specs.Prelude.{home, home_size, slot_of, holds, in_slot, location_place, IsHomePage}
+use Rattle.machines.specs.Host.{Memory}
 use Rattle.machines.proofs.Homes.{homes_apart}
-use Rattle.symbolic_tiles.specs.TileItems.{IsFree}
-use Rattle.symbolic_tiles.specs.Row.{IsUnowned}
+use Rattle.symbolic_tiles.specs.Prelude.{IsFree, IsUnowned}
 use Rattle.symbolic_tiles.proofs.Memory.{update_same, update_other, store_other, load_store, load_apart}
 
 -- the GPR in a register

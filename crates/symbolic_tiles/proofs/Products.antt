@@ -4,8 +4,7 @@ use Rattle.std.proofs.Math.Nat.{mod-lt}
 use Rattle.std.proofs.lemmas.Nat.{mul-lt, div_below}
 use Rattle.std.proofs.lemmas.Int.{fits_signed_mul, rem_below}
 use Rattle.std.proofs.lemmas.Bool.Decides.{nat_tests}
-use Rattle.word_kit.specs.Words.{signed, signed_in, two_complement}
-use Rattle.word_kit.specs.Products.{product_high, two_words, fits_word, signed_quotient, signed_remainder, divide_faults, quotient, remainder}
+use Rattle.machines.specs.Prelude.{signed, signed_in, two_complement, product_high, two_words, fits_word, signed_quotient, signed_remainder, divide_faults, quotient, remainder}
 use Rattle.symbolic_tiles.proofs.Signed.{signed_low, signed_high}
 
 pub abs_signed : (x : ℕ) → x < 2 ^ 32 → unsigned_abs (signed x) ≤ 2 ^ 31

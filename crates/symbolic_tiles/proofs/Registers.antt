@@ -1,12 +1,9 @@
 -- Registers and immediates are words, fields of CR have four bits.
 use Rattle.std.proofs.Common.{◌≡◌, ℕ, ◌+◌, ◌/◌, ◌^◌, ◌<◌, false, arith}
 use Rattle.std.proofs.lemmas.Bool.Decides.{nat_tests}
-use Rattle.word_kit.specs.Words.{sign_extended}
-use Rattle.ia_codec.specs.Rows.{difference_flags}
-use Rattle.reg_map.specs.Home.{location_range}
-use Rattle.symbolic_tiles.specs.SymbolicState.{SymbolicState}
-use Rattle.machines.specs.Guest.{Guest}
-use Rattle.reg_map.specs.Representation.{AreInRange}
+use Rattle.machines.specs.Prelude.{sign_extended, difference_flags, Guest}
+use Rattle.reg_map.specs.Prelude.{location_range, AreInRange}
+use Rattle.symbolic_tiles.specs.Prelude.{SymbolicState}
 
 pub word : (x : ℕ) → x < 32 → x < 34
 word x h = omega arith

@@ -3,32 +3,14 @@ use Rattle.std.proofs.Common.{◌≡◌, ◌≢◌, ℕ, zero, suc, ◌+◌, ◌
 use Rattle.std.proofs.lemmas.Bool.Decides.{nat_tests}
 use Rattle.std.proofs.lemmas.List.{length-take}
 use Rattle.space.specs.declared.call.End.TheVariants as endings
-use Rattle.space.specs.Reports.{ListedCall, Read, Write, Close, AnswerValue, Got, Took, Error, Given, Gives, Fails, given, error_of}
-use Rattle.ppc_isa.specs.declared.map.Map.{Map}
-use Rattle.ppc_isa.specs.Map.{IsMap}
-use Rattle.ia_codec.specs.declared.op.Op.{Op}
-use Rattle.ia_codec.specs.declared.op.Condition.{Condition}
-use Rattle.ia_codec.specs.declared.op.Condition.TheVariants.{Below, NotBelow, Equal, NotEqual, NotAbove, Above, Sign, NotSign, Less, NotLess, NotGreater, Greater}
-use Rattle.ia_codec.specs.Effect.{Flags}
-use Rattle.reg_map.specs.Home.{home, home_size}
-use Rattle.reg_map.specs.Place.{slot_of, place}
-use Rattle.reg_map.specs.Spelled.{mov_from}
-use Rattle.runs.specs.Machine.{Outcome, Goes, Ends}
-use Rattle.machines.specs.Memory.{update, block, put_block, each_byte, Rights}
-use Rattle.machines.specs.Host.{Choice, choice_at, Core, Host, Memory, value_at, does, host_acts, after_host_call, host_asks, host_system_call, goes_to as host_goes_to}
-use Rattle.reg_map.specs.Representation.{in_slot, IsHomePage, HasSegments}
-use Rattle.symbolic_tiles.specs.Perform.{is_jump}
-use Rattle.symbolic_tiles.specs.Relocated.{op_at}
-use Rattle.symbolic_tiles.specs.Row.{WritesHeld}
-use Rattle.symbolic_tiles.specs.SymbolicOps.{Location, SymbolicOp, op_of, IsWellFormed}
-use Rattle.symbolic_tiles.specs.Flow.{is_taken, Exit, Leaves, Leaps, Stops, Calls, Falls, behind_op, flow}
-use Rattle.symbolic_tiles.specs.TileItems.{AreItems, TileItem, Do, JumpIf, Label, LoadEbx, BranchTo, BranchIndirect, Interrupt, Trap, Undefined, code_of, flows_of, IsFree}
+use Rattle.machines.specs.Prelude.{ListedCall, Read, Write, Close, AnswerValue, Got, Took, Error, Given, Gives, Fails, given, error_of, Map, IsMap, Op, Condition, Below, NotBelow, Equal, NotEqual, NotAbove, Above, Sign, NotSign, Less, NotLess, NotGreater, Greater, Flags, Outcome, Goes, Ends, update, block, put_block, each_byte, Rights, Choice, choice_at, Core, Host, value_at, does, host_acts, after_host_call, host_asks, host_system_call, goes_to as host_goes_to}
+use Rattle.reg_map.specs.Prelude.{home, home_size, slot_of, place, mov_from, in_slot, IsHomePage, HasSegments}
+use Rattle.machines.specs.Host.{Memory}
+use Rattle.symbolic_tiles.specs.Prelude.{is_jump, op_at, WritesHeld, Location, SymbolicOp, op_of, IsWellFormed, is_taken, Exit, Leaves, Leaps, Stops, Calls, Falls, behind_op, flow, AreItems, TileItem, Do, JumpIf, Label, LoadEbx, BranchTo, BranchIndirect, Interrupt, Trap, Undefined, code_of, flows_of, IsFree, SymbolicState, with_reg, execute_op, SymbolicExit, Out, Indirect, Stopped, Called, Unknown, goes_on, then_exit, with_given, asks_for, calls, execute}
 use Rattle.symbolic_tiles.proofs.Small.{both_true}
 use Rattle.symbolic_tiles.proofs.Memory.{update_other, update_keeps, load_same}
 use Rattle.symbolic_tiles.proofs.Places.{free_low, each_of, home_within}
-use Rattle.symbolic_tiles.specs.SymbolicState.{SymbolicState, with_reg, execute_op}
 use Rattle.symbolic_tiles.proofs.Shows.{Shows, Kept, shows_op, shows_reg, fetched, read_operand, operand_word, op_acts, no_jump, fetch_plain, fetch_no_jump}
-use Rattle.symbolic_tiles.specs.SymbolicExit.{SymbolicExit, Out, Indirect, Stopped, Called, Unknown, goes_on, then_exit, with_given, asks_for, calls, execute}
 
 -- the number of a condition says what the condition says
 taken_is : (c : Option Condition) (f : Flags) → is_taken (code_of c) f ≡ goes_on c f

@@ -2,26 +2,12 @@
 use Rattle.std.proofs.Common.{◌≡◌, ℕ, ◌^◌, ◌<◌, ◌≤◌, Bool, true, false, eqb, List, [], ◌∷◌, ◌++◌, length, drop, Option, Some, None, bit_and, refl, sym, ap, ◌∙◌, subst, arith}
 use Rattle.std.proofs.lemmas.Bool.Decides.{nat_tests}
 use Rattle.symbolic_tiles.proofs.Lengths.{room_append}
-use Rattle.word_kit.specs.Words.{one_if}
-use Rattle.ppc_isa.specs.declared.instr.Instr.{Instr}
-use Rattle.ppc_isa.specs.Legal.{IsLegal}
-use Rattle.ia_codec.specs.declared.op.Condition.TheVariants.{Less}
-use Rattle.ia_codec.specs.Effect.{Flags}
-use Rattle.ia_codec.specs.Rows.{condition_holds, logic_flags}
-use Rattle.reg_map.specs.Home.{location_range}
+use Rattle.machines.specs.Prelude.{one_if, Instr, IsLegal, Less, Flags, condition_holds, logic_flags, Goes, update, Rights, Guest, effect_of, guest_acts, at_next, results, Choice, choice_at}
+use Rattle.reg_map.specs.Prelude.{location_range, AreInRange}
 use Rattle.symbolic_tiles.proofs.Memory.{update_other}
-use Rattle.runs.specs.Machine.{Goes}
-use Rattle.machines.specs.Memory.{update, Rights}
-use Rattle.machines.specs.Guest.{Guest, effect_of, guest_acts, at_next, results}
-use Rattle.machines.specs.Host.{Choice, choice_at}
-use Rattle.reg_map.specs.Representation.{AreInRange}
-use Rattle.symbolic_tiles.specs.Row.{DoesRow}
-use Rattle.symbolic_tiles.specs.Tiles.{IsTileOf, room_of}
-use Rattle.symbolic_tiles.specs.SymbolicOps.{SymbolicOp, ops_of, AreWellFormed}
-use Rattle.symbolic_tiles.specs.Recording.{record_ops}
+use Rattle.symbolic_tiles.specs.Prelude.{DoesRow, IsTileOf, room_of, SymbolicOp, ops_of, AreWellFormed, record_ops, SymbolicState, execute_op, then_ops, execute_ops}
 use Rattle.row_laws.proofs.Shapes.{Gives}
 use Rattle.row_laws.proofs.Changes.{values_in}
-use Rattle.symbolic_tiles.specs.SymbolicState.{SymbolicState, execute_op, then_ops, execute_ops}
 use Rattle.symbolic_tiles.proofs.Done.{state_of, IsStateOf, LeadsTo, KeepsFields, ops_do_row}
 use Rattle.symbolic_tiles.proofs.Signed.{field_byte, field_of_result}
 use Rattle.symbolic_tiles.proofs.Written.{carried, recorded, field_of_number, row_results, same_update, fields_results}

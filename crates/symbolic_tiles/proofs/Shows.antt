@@ -2,34 +2,12 @@
 use Rattle.std.proofs.Common.{◌≡◌, ◌≢◌, ℕ, zero, suc, ◌+◌, ◌*◌, ◌%◌, ◌^◌, ◌<◌, ◌≤◌, Bool, true, false, cond, eqb, ltb, ◌⊎◌, List, [], ◌∷◌, map, drop, Option, Some, None, refl, sym, ap, ◌∙◌, subst, ⊎_elim, arith}
 use Rattle.symbolic_tiles.proofs.Small.{both_true}
 use Rattle.std.proofs.lemmas.Bool.Decides.{nat_tests}
-use Rattle.word_kit.specs.Words.{one_if}
-use Rattle.word_kit.specs.Products.{divide_faults}
-use Rattle.ppc_isa.specs.declared.map.Map.{Map}
-use Rattle.ppc_isa.specs.Map.{IsMap}
-use Rattle.ia_codec.specs.declared.op.Op.TheVariants.{AluTo, AluFrom, Unary, Imul, MovTo, MovFrom, Extend, Bswap, Cmov, Bsr}
-use Rattle.ia_codec.specs.declared.op.AluOp.{AluOp}
-use Rattle.ia_codec.specs.declared.op.UnaryOp.TheVariants.{Not, Neg, Mul, Imul1, Div, Idiv}
-use Rattle.ia_codec.specs.declared.op.ExtendOp.TheVariants.{MovzxByte, MovzxHalf, MovsxByte, MovsxHalf}
-use Rattle.ia_codec.specs.declared.op.Operand.{Operand}
-use Rattle.ia_codec.specs.declared.op.Operand.TheVariants.{Reg, Abs, Base, Pair}
-use Rattle.ia_codec.specs.Effect.{Flags, HostValues, HostEffect}
-use Rattle.ia_codec.specs.Rows.{host_row, alu_row, unary_row, test_row, shift_row, mul_row, imul1_row, divide_row, imul_row, scan_row, sign_copies, condition_holds}
-use Rattle.reg_map.specs.Home.{home, home_size}
-use Rattle.reg_map.specs.Place.{slot_of, place, place_in}
-use Rattle.reg_map.specs.Spelled.{mov_from, alu_from}
-use Rattle.machines.specs.Memory.{update, load, store, each_byte, Rights}
-use Rattle.machines.specs.Host.{Choice, choice_at, Core, Register, Memory, place_of, value_at, put_at, bind, host_values, puts_both, multiplies, has_result, reads, puts, leaves, gives_to, does, Host, plain, host_acts, goes_to as goes_to_next}
-use Rattle.space.specs.declared.call.End.TheVariants.{DivideFault}
-use Rattle.runs.specs.Machine.{Outcome, Ends}
-use Rattle.reg_map.specs.Representation.{in_slot, location_place, IsHomePage}
-use Rattle.symbolic_tiles.specs.Perform.{is_jump, core_behind, perform}
-use Rattle.symbolic_tiles.specs.Relocated.{operand_at, op_at}
-use Rattle.symbolic_tiles.specs.Row.{GoesThrough, IsUnowned, IsCore}
+use Rattle.machines.specs.Prelude.{one_if, divide_faults, Map, IsMap, AluTo, AluFrom, Unary, Imul, MovTo, MovFrom, Extend, Bswap, Cmov, Bsr, AluOp, Not, Neg, Mul, Imul1, Div, Idiv, MovzxByte, MovzxHalf, MovsxByte, MovsxHalf, Operand, Reg, Abs, Base, Pair, Flags, HostValues, HostEffect, host_row, alu_row, unary_row, test_row, shift_row, mul_row, imul1_row, divide_row, imul_row, scan_row, sign_copies, condition_holds, update, load, store, each_byte, Rights, Choice, choice_at, Core, Register, place_of, value_at, put_at, bind, host_values, puts_both, multiplies, has_result, reads, puts, leaves, gives_to, does, Host, plain, host_acts, goes_to as goes_to_next, DivideFault, Outcome, Ends}
+use Rattle.reg_map.specs.Prelude.{home, home_size, slot_of, place, place_in, mov_from, alu_from, in_slot, location_place, IsHomePage}
+use Rattle.machines.specs.Host.{Memory}
+use Rattle.symbolic_tiles.specs.Prelude.{is_jump, core_behind, perform, operand_at, op_at, GoesThrough, IsUnowned, IsCore, IsFree, Holds, IsTemporary, IsSymbolicOperand, IsByte, IsWellFormed, AreWellFormed, SymbolicOperand, Temporary, Location, AccessSize, Byte, Half, Word, SymbolicOp, Mov, MovImmediate, Put, PutImmediate, Alu, AluImmediate, Test, TestImmediate, Invert, Negate, Multiply, MultiplyWide, Divide, ShiftBy, ShiftCl, Widen, SwapBytes, MoveIf, Scan, Signs, FetchByte, PutByte, SetByte, Load, Store, operand_of, load_op, store_op, op_of, SymbolicState, at, with_reg, with_location, symbolic_values, with_effect, with_both, size_of, loaded_word, stored_number, can_load, can_store, execute_op, then_ops, execute_ops}
 use Rattle.symbolic_tiles.proofs.Memory.{update_same, update_other, update_keeps, store_byte, store_other, store_same, load_same, load_apart}
 use Rattle.symbolic_tiles.proofs.Places.{slot_gpr, free_low, home_within, put_same, put_other, place_apart, place_fits, place_bytes, place_unowned, place_registers, place_flags, read_place, write_place}
-use Rattle.symbolic_tiles.specs.TileItems.{IsFree}
-use Rattle.symbolic_tiles.specs.SymbolicOps.{Holds, IsTemporary, IsSymbolicOperand, IsByte, IsWellFormed, AreWellFormed, SymbolicOperand, Temporary, Location, AccessSize, Byte, Half, Word, SymbolicOp, Mov, MovImmediate, Put, PutImmediate, Alu, AluImmediate, Test, TestImmediate, Invert, Negate, Multiply, MultiplyWide, Divide, ShiftBy, ShiftCl, Widen, SwapBytes, MoveIf, Scan, Signs, FetchByte, PutByte, SetByte, Load, Store, operand_of, load_op, store_op, op_of}
-use Rattle.symbolic_tiles.specs.SymbolicState.{SymbolicState, at, with_reg, with_location, symbolic_values, with_effect, with_both, size_of, loaded_word, stored_number, can_load, can_store, execute_op, then_ops, execute_ops}
 use Rattle.symbolic_tiles.proofs.Products.{high_word, parts_words}
 use Rattle.symbolic_tiles.proofs.Rooms.{alu_word, shift_word, product_word, swapped_word, copies_word, scan_word, widened_word}
 

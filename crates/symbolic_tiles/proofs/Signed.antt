@@ -3,9 +3,7 @@ use Rattle.std.proofs.Common.{◌≡◌, ℕ, ◌-◌, ◌%◌, ◌^◌, ◌<◌
 use Rattle.std.specs.Int.Bits.{and_self}
 use Rattle.std.proofs.lemmas.Int.{ints}
 use Rattle.std.proofs.lemmas.Bool.Decides.{nat_tests}
-use Rattle.word_kit.specs.Words.{same, is_negative, signed, is_less, difference_word}
-use Rattle.ia_codec.specs.declared.op.Condition.TheVariants.{Below, Less}
-use Rattle.ia_codec.specs.Rows.{difference_flags, logic_flags, condition_holds}
+use Rattle.machines.specs.Prelude.{same, is_negative, signed, is_less, difference_word, Below, Less, difference_flags, logic_flags, condition_holds}
 use Rattle.row_laws.proofs.Fields.{four_bits}
 use Rattle.symbolic_tiles.proofs.Small.{or_so_8, or_so_4, or_so_2}
 

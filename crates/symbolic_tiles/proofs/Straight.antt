@@ -1,17 +1,10 @@
 -- Instructions that are no flow words go on to the next word, or end outside.
 use Rattle.std.proofs.Common.{◌≡◌, ℕ, zero, suc, ◌+◌, ◌%◌, ◌^◌, Bool, true, false, cond, ◌&&◌, Contains, refl, sym, subst, inl, inr}
 use Rattle.std.proofs.lemmas.Bool.{false≢true}
-use Rattle.space.specs.declared.call.End.TheVariants.{Outside}
-use Rattle.runs.specs.Machine.{Goes, Ends}
-use Rattle.ppc_isa.specs.Effect.{GuestValues, Access, NoAccess, LoadAccess, StoreAccess}
-use Rattle.ppc_isa.specs.Rows.{immediate_row, arithmetic_row, arithmetic_unary_row, logic_row, logic_unary_row, compare_immediate_row, compare_row, load_row, load_update_row, load_indexed_row, load_indexed_update_row, store_row, store_update_row, store_indexed_row, store_indexed_update_row}
-use Rattle.ppc_isa.specs.Instruction.{Instr, Immediate, LogicImmediate, Load, Store, LoadUpdate, StoreUpdate, Multiple, TrapImmediate, CompareImmediate, Rotate, Branch, BranchConditional, SystemCall, Arithmetic, ArithmeticUnary, Logic, ShiftImmediate, LogicUnary, Compare, Trap, MoveFromCr, MoveToCr, MoveFromSpr, MoveToSpr, Sync, LoadIndexed, StoreIndexed, LoadIndexedUpdate, StoreIndexedUpdate, MoveCrField, CrLogic, Isync, BranchRegister, Lmw, Stmw}
-use Rattle.row_laws.proofs.Instructions as word
+use Rattle.machines.specs.Prelude.{Outside, Goes, Ends, GuestValues, Access, NoAccess, LoadAccess, StoreAccess, immediate_row, arithmetic_row, arithmetic_unary_row, logic_row, logic_unary_row, compare_immediate_row, compare_row, load_row, load_update_row, load_indexed_row, load_indexed_update_row, store_row, store_update_row, store_indexed_row, store_indexed_update_row, Instr, Immediate, LogicImmediate, Load, Store, LoadUpdate, StoreUpdate, Multiple, TrapImmediate, CompareImmediate, Rotate, Branch, BranchConditional, SystemCall, Arithmetic, ArithmeticUnary, Logic, ShiftImmediate, LogicUnary, Compare, Trap, MoveFromCr, MoveToCr, MoveFromSpr, MoveToSpr, Sync, LoadIndexed, StoreIndexed, LoadIndexedUpdate, StoreIndexedUpdate, MoveCrField, CrLogic, Isync, BranchRegister, Lmw, Stmw, each_byte, Rights, Guest, effect_of}
+use Rattle.machines.specs.Prelude as word
 use Rattle.row_laws.proofs.Lists.{none_in, first_or_later}
-use Rattle.machines.specs.Memory.{each_byte, Rights}
-use Rattle.machines.specs.Guest.{Guest, effect_of}
-use Rattle.symbolic_tiles.specs.Row.{span, loaded, stored, WritesHeld}
-use Rattle.symbolic_tiles.specs.Straight.{IsStraight, RowsAreStraight, AccessIsInside, AccessesAreInside}
+use Rattle.symbolic_tiles.specs.Prelude.{span, loaded, stored, WritesHeld, IsStraight, RowsAreStraight, AccessIsInside, AccessesAreInside}
 
 -- an access goes on, or ends outside
 within : (b : Bool) (next : ℕ) (to : Guest) → to.next ≡ next → IsStraight next (cond b (Goes to) (Ends Outside))

@@ -1,10 +1,7 @@
 -- Symbolic ops that do a row are its tile.
 use Rattle.std.proofs.Common.{◌≤◌, List, Option, Some, None}
-use Rattle.ppc_isa.specs.declared.instr.Instr.{Instr}
-use Rattle.ppc_isa.specs.Legal.{IsLegal}
-use Rattle.symbolic_tiles.specs.SymbolicOps.{SymbolicOp, AreWellFormed}
-use Rattle.symbolic_tiles.specs.SymbolicState.{SymbolicState}
-use Rattle.symbolic_tiles.specs.Tiles.{IsTileOf, room_of}
+use Rattle.machines.specs.Prelude.{Instr, IsLegal}
+use Rattle.symbolic_tiles.specs.Prelude.{SymbolicOp, AreWellFormed, SymbolicState, IsTileOf, room_of}
 use Rattle.symbolic_tiles.proofs.Done.{KeepsFields, OpsDo, ops_do_row}
 use Rattle.symbolic_tiles.proofs.Results.{Then}
 

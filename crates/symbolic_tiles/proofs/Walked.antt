@@ -1,16 +1,8 @@
 -- Ops and items that stand one behind another are walked.
 use Rattle.std.proofs.Common.{◌≡◌, ℕ, suc, Bool, true, false, cond, eqb, List, [], ◌∷◌, length, drop, Contains, Some, None, refl, sym, ap, ◌∙◌, subst, arith}
 use Rattle.std.proofs.lemmas.Bool.{eqb-true}
-use Rattle.ia_codec.specs.declared.op.Op.{Op}
-use Rattle.symbolic_tiles.specs.declared.flow_op.FlowOp.TheVariants.{Plain, Jump, Mark, Edge, Leap}
-use Rattle.runs.specs.Machine.{Outcome, Goes, Asks, Ends, Anywhere}
-use Rattle.runs.specs.Simulation.{Walks, stays, walks}
-use Rattle.machines.specs.Memory.{Rights}
-use Rattle.machines.specs.Host.{Choice, Core, Host, host_acts}
-use Rattle.symbolic_tiles.specs.Perform.{is_jump, op_outcome, then_at, core_behind, perform}
-use Rattle.symbolic_tiles.specs.Relocated.{op_at}
-use Rattle.symbolic_tiles.specs.Flow.{is_taken, Exit, Leaves, Leaps, Stops, Calls, Falls, behind_op, flow}
-use Rattle.symbolic_tiles.specs.Standing.{AreWalked, OpsAreWalked, EdgeCode, Reaches, FlowIsWalked, FlowsAreWalked}
+use Rattle.machines.specs.Prelude.{Op, Outcome, Goes, Asks, Ends, Anywhere, Walks, stays, walks, Rights, Choice, Core, Host, host_acts}
+use Rattle.symbolic_tiles.specs.Prelude.{Plain, Jump, Mark, Edge, Leap, is_jump, op_outcome, then_at, core_behind, perform, op_at, is_taken, Exit, Leaves, Leaps, Stops, Calls, Falls, behind_op, flow, AreWalked, OpsAreWalked, EdgeCode, Reaches, FlowIsWalked, FlowsAreWalked}
 use Rattle.symbolic_tiles.proofs.Anywhere.{ops_stand_anywhere}
 
 module _ (host : Rights) (step : Host → Outcome Host) where

@@ -1,12 +1,9 @@
 -- What the rows write into CR and XER, by locations.
 use Rattle.std.proofs.Common.{◌≡◌, ◌≢◌, ℕ, ◌+◌, ◌-◌, ◌/◌, ◌%◌, ◌^◌, ◌<◌, ◌≤◌, Bool, true, false, cond, ◌&&◌, eqb, ltb, leb, ◌⊎◌, inl, inr, refl, sym, ap, ◌∙◌, subst, arith}
 use Rattle.std.proofs.lemmas.Bool.Decides.{nat_tests}
-use Rattle.word_kit.specs.Words.{one_if, is_less}
-use Rattle.ppc_isa.specs.Effect.{GuestValues, Effect}
-use Rattle.ppc_isa.specs.Recording.{so, ca, with_ca, with_field}
-use Rattle.reg_map.specs.Home.{location_range}
-use Rattle.machines.specs.Memory.{update}
-use Rattle.machines.specs.Guest.{cr_word, xer_word, put_cr, put_xer, results}
+use Rattle.machines.specs.Prelude.{one_if, is_less, GuestValues, Effect, with_ca, with_field, update, cr_word, xer_word, put_cr, put_xer, results}
+use Rattle.ppc_isa.specs.Recording.{so, ca}
+use Rattle.reg_map.specs.Prelude.{location_range}
 use Rattle.symbolic_tiles.proofs.Memory.{update_same, update_other}
 use Rattle.row_laws.proofs.Fields.{InRange, field_of_word, ca_of_word, so_of_word, ov_of_word, xc_of_word, ca_put, so_with_ca, ov_with_ca, xc_with_ca, with_field_other, with_field_own, four_bits, put_cr_at, put_cr_keeps, put_xer_keeps, put_cr_off}
 use Rattle.row_laws.proofs.Shapes.{Gives}

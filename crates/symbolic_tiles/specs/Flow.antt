@@ -1,20 +1,9 @@
 -- When the tile of a flow word does what its instruction does. This project's own.
 use Rattle.std.specs.Prelude.{◌≡◌, ℕ, ◌*◌, ◌/◌, ◌⊎◌, Bool, true, false, cond, eqb, List, [], ◌∷◌, drop, Option, Some, None}
-use Rattle.space.specs.declared.call.End.{End}
-use Rattle.space.specs.declared.call.End.TheVariants.{Outside}
-use Rattle.space.specs.Reports.{ListedCall, AnswerValue}
-use Rattle.ppc_isa.specs.declared.map.Map.{Map}
-use Rattle.ppc_isa.specs.declared.instr.Instr.{Instr}
-use Rattle.ia_codec.specs.declared.op.Condition.TheVariants.{Below, NotBelow, Equal, NotEqual, NotAbove, Above, Sign, NotSign, Less, NotLess, NotGreater, Greater}
-use Rattle.ia_codec.specs.Effect.{Flags}
-use Rattle.ia_codec.specs.Rows.{condition_holds}
+use Rattle.machines.specs.Prelude.{End, Outside, ListedCall, AnswerValue, Map, Instr, Below, NotBelow, Equal, NotEqual, NotAbove, Above, Sign, NotSign, Less, NotLess, NotGreater, Greater, Flags, condition_holds, Outcome, Goes, Asks, Ends, Rights, Guest, guest_executes, Choice, Core, Host}
 use Rattle.symbolic_tiles.specs.declared.flow_op.FlowOp.{FlowOp}
 use Rattle.symbolic_tiles.specs.declared.flow_op.FlowOp.TheVariants.{Plain, Jump, Mark, Edge, Leap}
-use Rattle.runs.specs.Machine.{Outcome, Goes, Asks, Ends}
-use Rattle.machines.specs.Memory.{Rights}
-use Rattle.machines.specs.Guest.{Guest, guest_executes}
-use Rattle.machines.specs.Host.{Choice, Core, Host}
-use Rattle.reg_map.specs.Representation.{IsHomePage, HasSegments, Represents, AreInRange}
+use Rattle.reg_map.specs.Prelude.{IsHomePage, HasSegments, Represents, AreInRange}
 use Rattle.symbolic_tiles.specs.Perform.{is_jump, op_outcome}
 use Rattle.symbolic_tiles.specs.Relocated.{op_at}
 use Rattle.symbolic_tiles.specs.Row.{Any, IsUnowned, WritesHeld, IsCore}

@@ -1,14 +1,7 @@
 -- What holds of places, of ops wherever they stand, and of memory.
 use Rattle.std.specs.Prelude.{◌≡◌, ◌≢◌, ℕ, ◌+◌, ◌<◌, ◌≤◌, ◌^◌, ◌⊎◌, Bool, true, false, Some}
-use Rattle.ppc_isa.specs.declared.map.Map.{Map}
-use Rattle.reg_map.specs.Home.{home, home_size, location_count}
-use Rattle.reg_map.specs.Place.{slot_of}
-use Rattle.space.specs.declared.program.Program.{Program}
-use Rattle.machines.specs.Memory.{update, Rights, rights_of}
-use Rattle.machines.specs.Guest.{Guest}
-use Rattle.machines.specs.Host.{Core, Host, reads, puts, host_acts}
-use Rattle.reg_map.specs.Representation.{location_place, IsHomePage, Represents}
-use Rattle.ia_codec.specs.declared.op.Op.{Op}
+use Rattle.machines.specs.Prelude.{Map, Program, update, Rights, rights_of, Guest, Core, Host, reads, puts, host_acts, Op}
+use Rattle.reg_map.specs.Prelude.{home, home_size, location_count, slot_of, location_place, IsHomePage, Represents}
 use Rattle.symbolic_tiles.specs.Perform.{is_jump, op_outcome, then_at}
 use Rattle.symbolic_tiles.specs.Row.{IsUnowned, WritesHeld, Window, TilePrecondition, TilePostcondition}
 

@@ -12,3 +12,4 @@ pub mod TileItems
 pub mod SymbolicExit
 pub mod Marks
 pub mod Laws
+pub mod Prelude

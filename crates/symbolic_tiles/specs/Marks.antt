@@ -1,9 +1,8 @@
 -- What a layout needs of a flow word's tile (this project's own): each jump leads to a mark behind it, no mark stands twice,
 -- each op can be spelled over every home page, and the bytes have room.
 use Rattle.std.specs.Prelude.{◌≡◌, ℕ, ◌+◌, length, Bool, true, false, ◌||◌, eqb, List, [], ◌∷◌, Option}
-use Rattle.ia_codec.specs.declared.op.Condition.{Condition}
-use Rattle.ia_codec.specs.Spelling.{spelling}
-use Rattle.reg_map.specs.Relocated.{IsPlaceable}
+use Rattle.machines.specs.Prelude.{Condition, spelling}
+use Rattle.reg_map.specs.Prelude.{IsPlaceable}
 use Rattle.symbolic_tiles.specs.TileItems.{code_of}
 use Rattle.symbolic_tiles.specs.declared.flow_op.FlowOp.{FlowOp}
 use Rattle.symbolic_tiles.specs.declared.flow_op.FlowOp.TheVariants.{Plain, Jump, Mark, Edge, Leap}

@@ -1,9 +1,7 @@
 -- The ends of tiles that leave a comparison in a field of CR (this project's own): bit 8 where less, 4 where greater, 2 where
 -- equal, and SO.
 use Rattle.std.specs.Prelude.{ℕ, ◌+◌, Bool, true, false, List, [], ◌∷◌}
-use Rattle.ia_codec.specs.declared.op.AluOp.TheVariants.{Or}
-use Rattle.ia_codec.specs.declared.op.Condition.{Condition}
-use Rattle.ia_codec.specs.declared.op.Condition.TheVariants.{Equal, Less}
+use Rattle.machines.specs.Prelude.{Or, Condition, Equal, Less}
 use Rattle.symbolic_tiles.specs.SymbolicOps.{Temporary, SymbolicOp, MovImmediate, Alu, Test, MoveIf, FetchByte, PutByte}
 
 -- behind a comparison, its outcome goes into field f; `less` is the condition of less

@@ -1,21 +1,7 @@
 -- When ops do on the host what instructions do on the guest. This project's own.
 use Rattle.std.specs.Prelude.{◌≡◌, ◌≢◌, ℕ, zero, suc, ◌+◌, ◌%◌, ◌^◌, ◌<◌, Bool, true, false, List, [], ◌∷◌, map, Option, Some, None, Contains}
-use Rattle.ppc_isa.specs.declared.map.Map.{Map}
-use Rattle.ppc_isa.specs.declared.instr.Instr.{Instr}
-use Rattle.ppc_isa.specs.Map.{IsMap}
-use Rattle.ppc_isa.specs.Effect.{Access, NoAccess, LoadAccess, StoreAccess}
-use Rattle.ppc_isa.specs.Locations.{locations_written}
-use Rattle.ia_codec.specs.declared.op.Op.{Op}
-use Rattle.ia_codec.specs.declared.op.Condition.{Condition}
-use Rattle.ia_codec.specs.Rows.{condition_holds}
-use Rattle.reg_map.specs.Home.{home, home_size, location_count, location_range}
-use Rattle.reg_map.specs.Place.{slot_of}
-use Rattle.ia_codec.specs.Registers.{eax, ecx, edx}
-use Rattle.runs.specs.Machine.{Outcome, Goes}
-use Rattle.machines.specs.Memory.{Rights}
-use Rattle.machines.specs.Guest.{Guest, effect_of, guest_acts}
-use Rattle.machines.specs.Host.{Choice, Core, value_at}
-use Rattle.reg_map.specs.Representation.{location_place, IsHomePage, Represents, AreInRange}
+use Rattle.machines.specs.Prelude.{Map, Instr, IsMap, Access, NoAccess, LoadAccess, StoreAccess, locations_written, Op, Condition, condition_holds, eax, ecx, edx, Outcome, Goes, Rights, Guest, effect_of, guest_acts, Choice, Core, value_at}
+use Rattle.reg_map.specs.Prelude.{home, home_size, location_count, location_range, slot_of, location_place, IsHomePage, Represents, AreInRange}
 use Rattle.symbolic_tiles.specs.Perform.{perform}
 use Rattle.symbolic_tiles.specs.Relocated.{op_at}
 

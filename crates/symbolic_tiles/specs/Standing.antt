@@ -1,13 +1,8 @@
 -- Ops and items in the code, one behind another, for a machine that is given by its step.
 use Rattle.std.specs.Prelude.{◌≡◌, ℕ, ◌+◌, ◌≤◌, cond, List, [], ◌∷◌, length, drop, Contains, Option, Some, None}
-use Rattle.space.specs.Reports.{AnswerValue}
-use Rattle.ia_codec.specs.declared.op.Op.{Op}
+use Rattle.machines.specs.Prelude.{AnswerValue, Op, Outcome, Goes, Asks, Ends, Anywhere, Walks, Rights, Choice, Core, Host, host_acts}
 use Rattle.symbolic_tiles.specs.declared.flow_op.FlowOp.{FlowOp}
 use Rattle.symbolic_tiles.specs.declared.flow_op.FlowOp.TheVariants.{Plain, Jump, Mark, Edge, Leap}
-use Rattle.runs.specs.Machine.{Outcome, Goes, Asks, Ends, Anywhere}
-use Rattle.runs.specs.Simulation.{Walks}
-use Rattle.machines.specs.Memory.{Rights}
-use Rattle.machines.specs.Host.{Choice, Core, Host, host_acts}
 use Rattle.symbolic_tiles.specs.Perform.{perform}
 use Rattle.symbolic_tiles.specs.Relocated.{op_at}
 use Rattle.symbolic_tiles.specs.Flow.{is_taken, Exit, Leaves, Leaps, Stops, Calls, Falls, flow}

@@ -1,10 +1,6 @@
 -- How the rows of instructions go on that are no flow words. This project's own.
 use Rattle.std.specs.Prelude.{◌≡◌, ℕ, true, false, Contains}
-use Rattle.space.specs.declared.call.End.TheVariants.{Outside}
-use Rattle.ppc_isa.specs.declared.instr.Instr.{Instr}
-use Rattle.runs.specs.Machine.{Outcome, Goes, Asks, Ends}
-use Rattle.machines.specs.Memory.{Rights}
-use Rattle.machines.specs.Guest.{Guest, effect_of, guest_acts, behind}
+use Rattle.machines.specs.Prelude.{Outside, Instr, Outcome, Goes, Asks, Ends, Rights, Guest, effect_of, guest_acts, behind}
 use Rattle.row_laws.specs.FlowWords.{is_flow}
 use Rattle.symbolic_tiles.specs.Row.{window_of, WritesHeld}
 

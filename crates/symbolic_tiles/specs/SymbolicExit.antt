@@ -1,13 +1,7 @@
 -- What the items of a flow word's tile do to a symbolic state, and how it leaves them (this project's own).
 use Rattle.std.specs.Prelude.{ℕ, ◌-◌, ◌^◌, Bool, true, cond, ◌||◌, eqb, List, [], ◌∷◌, drop, Option, Some, None}
-use Rattle.space.specs.declared.call.End.{End}
+use Rattle.machines.specs.Prelude.{End, ListedCall, Read, Write, Close, AnswerValue, Given, Gives, Fails, given, Condition, Flags, condition_holds, update, block, put_block, each_byte, Rights, Choice, choice_at}
 use Rattle.space.specs.declared.call.End.TheVariants as endings
-use Rattle.space.specs.Reports.{ListedCall, Read, Write, Close, AnswerValue, Given, Gives, Fails, given}
-use Rattle.ia_codec.specs.declared.op.Condition.{Condition}
-use Rattle.ia_codec.specs.Effect.{Flags}
-use Rattle.ia_codec.specs.Rows.{condition_holds}
-use Rattle.machines.specs.Memory.{update, block, put_block, each_byte, Rights}
-use Rattle.machines.specs.Host.{Choice, choice_at}
 use Rattle.symbolic_tiles.specs.TileItems.{TileItem, Do, JumpIf, Label, LoadEbx, BranchTo, BranchIndirect, Interrupt, Trap, Undefined}
 use Rattle.symbolic_tiles.specs.SymbolicState.{SymbolicState, with_reg, execute_op}
 

@@ -1,17 +1,8 @@
 -- Symbolic ops (this project's own): the ops of a tile told over the temporaries eax, ecx, edx and over locations, with no
 -- register map; and the op of the host that each is under a map.
 use Rattle.std.specs.Prelude.{ℕ, ◌<◌, ◌≤◌, ◌^◌, Bool, true, false, ltb, List, [], ◌∷◌, map}
-use Rattle.ppc_isa.specs.declared.map.Map.{Map}
-use Rattle.ia_codec.specs.declared.op.Op.{Op}
-use Rattle.ia_codec.specs.declared.op.Op.TheVariants.{AluImm, TestReg, TestImm, Unary, Imul, MovTo, MovFrom, MovImm, MovToImm, MovHalfTo, MovByteTo, Shift, ShiftByCl, Extend, Bswap, Set, Cmov, Bsr, Cdq}
-use Rattle.ia_codec.specs.declared.op.UnaryOp.{UnaryOp}
-use Rattle.ia_codec.specs.declared.op.UnaryOp.TheVariants.{Not, Neg, Mul, Imul1, Div, Idiv}
-use Rattle.ia_codec.specs.declared.op.ExtendOp.TheVariants.{MovzxByte, MovzxHalf}
-use Rattle.ia_codec.specs.declared.op.Operand.{Operand}
-use Rattle.ia_codec.specs.declared.op.Operand.TheVariants.{Reg, Abs, Base}
-use Rattle.reg_map.specs.Home.{home}
-use Rattle.reg_map.specs.Place.{place}
-use Rattle.reg_map.specs.Spelled.{mov_from, alu_from}
+use Rattle.machines.specs.Prelude.{Map, Op, AluImm, TestReg, TestImm, Unary, Imul, MovTo, MovFrom, MovImm, MovToImm, MovHalfTo, MovByteTo, Shift, ShiftByCl, Extend, Bswap, Set, Cmov, Bsr, Cdq, UnaryOp, Not, Neg, Mul, Imul1, Div, Idiv, MovzxByte, MovzxHalf, Operand, Reg, Abs, Base}
+use Rattle.reg_map.specs.Prelude.{home, place, mov_from, alu_from}
 pub use Rattle.symbolic_tiles.specs.declared.symbolic_op.SymbolicOperand.{SymbolicOperand}
 pub use Rattle.symbolic_tiles.specs.declared.symbolic_op.SymbolicOperand.TheVariants.{Temporary, Location}
 pub use Rattle.symbolic_tiles.specs.declared.symbolic_op.AccessSize.{AccessSize}

@@ -1,15 +1,7 @@
 -- What symbolic ops do (this project's own) to a state that has the temporaries, the locations, the flags and the guest's
 -- memory. Each computes as the host's op does (Intel SDM volume 2, by `ia_codec`'s rows).
 use Rattle.std.specs.Prelude.{ℕ, ◌+◌, ◌%◌, ◌^◌, Bool, true, false, cond, ◌&&◌, List, [], ◌∷◌, drop, Option, Some, None, bit_and}
-use Rattle.word_kit.specs.Words.{complement, one_if}
-use Rattle.word_kit.specs.Products.{divide_faults}
-use Rattle.ia_codec.specs.declared.op.Op.TheVariants.{Extend}
-use Rattle.ia_codec.specs.declared.op.UnaryOp.TheVariants.{Neg}
-use Rattle.ia_codec.specs.declared.op.Operand.TheVariants.{Reg}
-use Rattle.ia_codec.specs.Effect.{Flags, HostValues, HostEffect}
-use Rattle.ia_codec.specs.Rows.{host_row, alu_row, unary_row, shift_row, divide_row, imul_row, scan_row, sign_copies, swapped, condition_holds, logic_flags}
-use Rattle.machines.specs.Memory.{update, load, store, each_byte, Rights}
-use Rattle.machines.specs.Host.{Choice, choice_at, chosen_word, chosen_flags, has_result}
+use Rattle.machines.specs.Prelude.{complement, one_if, divide_faults, Extend, Neg, Reg, Flags, HostValues, HostEffect, host_row, alu_row, unary_row, shift_row, divide_row, imul_row, scan_row, sign_copies, swapped, condition_holds, logic_flags, update, load, store, each_byte, Rights, Choice, choice_at, chosen_word, chosen_flags, has_result}
 use Rattle.symbolic_tiles.specs.SymbolicOps.{SymbolicOperand, Temporary, Location, AccessSize, Byte, Half, Word, SymbolicOp, Mov, MovImmediate, Put, PutImmediate, Alu, AluImmediate, Test, TestImmediate, Invert, Negate, Multiply, MultiplyWide, Divide, ShiftBy, ShiftCl, Widen, SwapBytes, MoveIf, Scan, Signs, FetchByte, PutByte, SetByte, Load, Store, wide_op}
 
 pub record SymbolicState : Type 0 where

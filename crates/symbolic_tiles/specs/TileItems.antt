@@ -1,13 +1,8 @@
 -- The items of a flow word's tile (this project's own), told without a register map: symbolic ops, jumps forward to labels,
 -- edges, and how a run ends or calls; and the item of the file that each is under a map.
 use Rattle.std.specs.Prelude.{◌≢◌, ℕ, ◌<◌, List, [], ◌∷◌, ◌++◌, map, Option, Some, None}
-use Rattle.ppc_isa.specs.declared.map.Map.{Map}
-use Rattle.ia_codec.specs.declared.op.Op.TheVariants.{Int80, Int3, Ud2}
-use Rattle.ia_codec.specs.declared.op.Condition.{Condition}
-use Rattle.ia_codec.specs.declared.op.Condition.TheVariants.{Below, NotBelow, Equal, NotEqual, NotAbove, Above, Sign, NotSign, Less, NotLess, NotGreater, Greater}
-use Rattle.reg_map.specs.Place.{place, slot_of}
-use Rattle.ia_codec.specs.Registers.{ebx}
-use Rattle.reg_map.specs.Spelled.{mov_from}
+use Rattle.machines.specs.Prelude.{Map, Int80, Int3, Ud2, Condition, Below, NotBelow, Equal, NotEqual, NotAbove, Above, Sign, NotSign, Less, NotLess, NotGreater, Greater, ebx}
+use Rattle.reg_map.specs.Prelude.{place, slot_of, mov_from}
 use Rattle.symbolic_tiles.specs.SymbolicOps.{SymbolicOp, op_of, IsWellFormed}
 use Rattle.symbolic_tiles.specs.declared.flow_op.FlowOp.{FlowOp}
 use Rattle.symbolic_tiles.specs.declared.flow_op.FlowOp.TheVariants as flow

@@ -1,8 +1,6 @@
 -- When symbolic ops are a tile of an instruction that is no flow word (this project's own).
 use Rattle.std.specs.Prelude.{ℕ, ◌≤◌, ◌+◌, List, [], ◌∷◌, length}
-use Rattle.ppc_isa.specs.declared.instr.Instr.{Instr}
-use Rattle.ia_codec.specs.declared.op.Op.{Op}
-use Rattle.ia_codec.specs.Spelling.{spelling}
+use Rattle.machines.specs.Prelude.{Instr, Op, spelling}
 use Rattle.symbolic_tiles.specs.Row.{DoesRow}
 use Rattle.symbolic_tiles.specs.SymbolicOps.{SymbolicOp, PutImmediate, Multiply, Scan, FetchByte, SetByte, Load, Store, AreWellFormed, ops_of}
 

@@ -1,8 +1,7 @@
 //! The op of the host that a symbolic op is under a map, and the item of a tile's code.
 
 ghost use Rattle.std.specs.Prelude.{◌≡◌, IfOk};
-ghost use Rattle.reg_map.specs.Home.{home as home_of};
-ghost use Rattle.reg_map.specs.Place.{IsMap, place};
+ghost use Rattle.reg_map.specs.Prelude.{home as home_of, IsMap, place};
 ghost use Rattle.symbolic_tiles.specs.SymbolicOps.{op_of as op_under, operand_of as operand_under, ops_of as ops_under, load_op, store_op};
 ghost use Rattle.symbolic_tiles.specs.TileItems.{flow_of as flow_under, flows_of as flows_under, code_of};
 

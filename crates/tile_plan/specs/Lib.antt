@@ -4,3 +4,4 @@ pub mod Choice
 pub mod Reach
 pub mod Forward
 pub mod Solution
+pub mod Prelude

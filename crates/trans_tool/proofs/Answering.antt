@@ -1,8 +1,7 @@
 -- What a run of `translate` did, from what it was answered.
 use Rattle.std.proofs.Common.{◌≡◌, ◌≤◌, ℕ, List, length, Some, IsTrue, ap, ◌∙◌, subst}
 use Rattle.translate_core.specs.declared.translation.Output.{Output}
-use Rattle.trans_tool.specs.Seen.{Outside, OthersStand}
-use Rattle.trans_tool.specs.Translate.{IsSource, IsTranslated, IsAnswer}
+use Rattle.trans_tool.specs.Prelude.{Outside, OthersStand, IsSource, IsTranslated, IsAnswer}
 
 module _ (o : Outside) (from bytes bytes' : List ℕ) (output : Output) (held : IsTrue o.tells → o.held from ≡ Some bytes) (within : length bytes ≤ 0x1000000) (same : bytes' ≡ bytes) (answer : IsAnswer bytes' output) where
   is_answer : IsAnswer bytes output

@@ -4,15 +4,8 @@ use Rattle.std.proofs.Math.Seq.{take-length}
 use Rattle.std.specs.Io.KnownBytes.{Appends}
 use Rattle.outside.specs.Streams.{AppendsPrefix}
 use Rattle.space.specs.declared.call.End.TheVariants as ending
-use Rattle.runner.specs.Attending.{Streams}
-use Rattle.trans_tool.specs.Lines.{IsTold}
-use Rattle.trans_tool.specs.Seen.{Outside, Stream, InputStands, StreamStands, output_in}
-use Rattle.trans_tool.specs.Translate.{Ends}
-use Rattle.trans_tool.specs.Listing.{EndsListing}
-use Rattle.trans_tool.specs.Running.{EndsRun}
-use Rattle.trans_tool.specs.Top.{Comes, Runs}
-use Rattle.trans_tool.specs.declared.cause.Cause.{Cause}
-use Rattle.trans_tool.specs.declared.cause.Cause.TheVariants.{Done, GuestExit, Usage, BadElf, TooLong, FileRead, FileWrite, OutFault, ErrFault, Memory, StepsSpent, Trap, Illegal, DivideFault}
+use Rattle.runner.specs.Prelude.{Streams}
+use Rattle.trans_tool.specs.Prelude.{IsTold, Outside, Stream, InputStands, StreamStands, output_in, Ends, EndsListing, EndsRun, Comes, Runs, Cause, Done, GuestExit, Usage, BadElf, TooLong, FileRead, FileWrite, OutFault, ErrFault, Memory, StepsSpent, Trap, Illegal, DivideFault}
 use Rattle.trans_tool.specs.declared.cause.Cause.TheVariants as cause
 
 pub ends-memory : (o : Outside) (from to : List ℕ) (cause : Cause) → Ends o from to cause → Ends o from to Memory

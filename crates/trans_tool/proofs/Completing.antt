@@ -1,19 +1,10 @@
 -- A run that nothing hinders has the cause that the file's bytes are due to have, or memory ran out.
 use Rattle.std.proofs.Common.{◌≡◌, ◌≤◌, ◌⊎◌, inl, inr, ℕ, List, [], ◌∷◌, length, codes, Some, refl, sym, ap, ◌∙◌, subst, arith}
-use Rattle.space.specs.declared.program.Kind.TheVariants.{PowerPc}
-use Rattle.elf_load.specs.Faults.{IsProgramOf, IsFirstFault}
+use Rattle.machines.specs.Prelude.{PowerPc}
+use Rattle.elf_load.specs.Prelude.{IsProgramOf, IsFirstFault}
 use Rattle.outside.specs.Causes.{Rose}
-use Rattle.trans_tool.specs.Whole.{IsLonger}
-use Rattle.trans_tool.specs.Lines.{IsTold}
-use Rattle.runner.specs.Attending.{Streams}
-use Rattle.trans_tool.specs.Seen.{Outside, Stream, output_in}
-use Rattle.trans_tool.specs.Translate.{Ends, IsInput}
-use Rattle.trans_tool.specs.Listing.{kind_of, EndsListing, IsFile}
-use Rattle.trans_tool.specs.Words.{IsRunLine}
-use Rattle.trans_tool.specs.Due.{IsDue, IsDueListing, IsUnhindered, IsUnhinderedListing}
-use Rattle.trans_tool.specs.Top.{Comes, Runs}
-use Rattle.trans_tool.specs.declared.cause.Cause.{Cause}
-use Rattle.trans_tool.specs.declared.cause.Cause.TheVariants.{Done, GuestExit, Usage, BadElf, TooLong, FileRead, FileWrite, OutFault, ErrFault, Memory, StepsSpent, Trap, Illegal, DivideFault}
+use Rattle.trans_tool.specs.Prelude.{IsLonger, IsTold, Outside, Stream, output_in, Ends, IsInput, kind_of, EndsListing, IsFile, IsRunLine, IsDue, IsDueListing, IsUnhindered, IsUnhinderedListing, Comes, Runs, Cause, Done, GuestExit, Usage, BadElf, TooLong, FileRead, FileWrite, OutFault, ErrFault, Memory, StepsSpent, Trap, Illegal, DivideFault}
+use Rattle.runner.specs.Prelude.{Streams}
 use Rattle.trans_tool.specs.declared.cause.Cause.TheVariants as cause
 
 pub some_same : (a b : List ℕ) → Some a ≡ Some b → a ≡ b

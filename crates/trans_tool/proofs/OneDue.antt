@@ -1,25 +1,12 @@
 -- Bytes are due to have no two causes.
 use Rattle.std.proofs.Common.{Option, ◌≡◌, ◌<◌, ◌≤◌, ℕ, List, [], length, refl, sym, ap, ◌∙◌, subst, arith}
-use Rattle.space.specs.declared.program.Kind.{Kind}
-use Rattle.space.specs.declared.program.Kind.TheVariants.{PowerPc}
-use Rattle.space.specs.declared.program.Program.{Program}
-use Rattle.elf_load.specs.Faults.{IsProgramOf, IsFirstFault}
+use Rattle.machines.specs.Prelude.{Kind, PowerPc, Program, Ia32, End, Instr, Fetched, guest_machine, guest_start, host_machine, host_start}
+use Rattle.elf_load.specs.Prelude.{IsProgramOf, IsFirstFault}
 use Rattle.elf_load.specs.declared.refusal.ElfRefusal.{ElfRefusal}
-use Rattle.trans_tool.specs.Listing.{kind_of}
-use Rattle.trans_tool.specs.Due.{IsDue, IsDueListing}
-use Rattle.trans_tool.specs.declared.cause.Cause.{Cause}
-use Rattle.trans_tool.specs.declared.cause.Cause.TheVariants.{Done, GuestExit, Usage, BadElf, TooLong, FileRead, FileWrite, OutFault, ErrFault, Memory, StepsSpent, Trap, Illegal, DivideFault}
+use Rattle.trans_tool.specs.Prelude.{kind_of, IsDue, IsDueListing, Cause, Done, GuestExit, Usage, BadElf, TooLong, FileRead, FileWrite, OutFault, ErrFault, Memory, StepsSpent, Trap, Illegal, DivideFault, RunsWholeOn, cause_of, IsDueEnd, IsDueRun}
 use Rattle.trans_tool.specs.declared.cause.Cause.TheVariants as cause
-use Rattle.space.specs.declared.program.Kind.TheVariants.{Ia32}
-use Rattle.space.specs.declared.call.End.{End}
-use Rattle.ppc_isa.specs.declared.instr.Instr.{Instr}
-use Rattle.machines.specs.Readings.{Fetched}
-use Rattle.machines.specs.Guest.{guest_machine, guest_start}
-use Rattle.machines.specs.Host.{host_machine, host_start}
-use Rattle.runner.specs.Answers.{Bytes}
+use Rattle.runner.specs.Prelude.{Bytes}
 use Rattle.runner.proofs.Whole.{one_whole_run}
-use Rattle.trans_tool.specs.Running.{RunsWholeOn, cause_of}
-use Rattle.trans_tool.specs.Due.{IsDueEnd, IsDueRun}
 
 abbrev pub OneProgram : Type 0
 OneProgram = (kind : Kind) (bytes : List ℕ) (p q : Program) → IsProgramOf kind bytes p → IsProgramOf kind bytes q → p ≡ q

@@ -1,18 +1,11 @@
 -- A run that ended so has the cause of that end, and the run of the host's machine is that of its program.
 use Rattle.std.proofs.Common.{◌≡◌, ◌≢◌, refl, sym, subst, ℕ, List, []}
 use Rattle.std.specs.Prelude.{Result, Ok, Err, IfOk, OnErr}
-use Rattle.space.specs.declared.program.Kind.TheVariants.{Ia32}
-use Rattle.space.specs.declared.program.Program.{Program}
-use Rattle.space.specs.declared.call.End.{End}
+use Rattle.machines.specs.Prelude.{Ia32, Program, End, Outcome, Goes, Host, host_machine, host_start}
 use Rattle.space.specs.declared.call.End.TheVariants as ending
-use Rattle.runs.specs.Machine.{Outcome, Goes}
-use Rattle.machines.specs.Host.{Host, host_machine, host_start}
-use Rattle.ia_step.specs.Steps.{Seen, Shows}
-use Rattle.runner.specs.Answers.{Bytes}
-use Rattle.runner.specs.Attending.{Streams, Told, Attended, AttendedPartly}
-use Rattle.runner.specs.Hosts.{ShowsHost}
-use Rattle.trans_tool.specs.Seen.{Outside}
-use Rattle.trans_tool.specs.Running.{RanTo, EndsRun, HasRunTo, HasRunPartly, AttendedOn, PartlyOn, cause_of}
+use Rattle.ia_step.specs.Prelude.{Seen, Shows}
+use Rattle.runner.specs.Prelude.{Bytes, Streams, Told, Attended, AttendedPartly, ShowsHost}
+use Rattle.trans_tool.specs.Prelude.{Outside, RanTo, EndsRun, HasRunTo, HasRunPartly, AttendedOn, PartlyOn, cause_of}
 
 pub ended_so : (o : Outside) (file : List ℕ) (steps : ℕ) (old new : Streams) (end : End) → end ≢ ending.Dry → RanTo o file steps old new end → EndsRun o file steps old new (cause_of end)
 ended_so o file steps old new (ending.Exit number) apart ran = ran

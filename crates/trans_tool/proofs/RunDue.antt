@@ -2,29 +2,13 @@
 use Rattle.std.proofs.Common.{◌≡◌, ◌≢◌, ◌≤◌, ◌⊎◌, inl, inr, ℕ, List, [], ◌∷◌, length, drop, Option, Some, refl, sym, ap, ◌∙◌, subst, arith}
 use Rattle.std.proofs.lemmas.Fmt.{decimal_injective}
 use Rattle.std.proofs.lemmas.Grind.{common_steps}
-use Rattle.space.specs.declared.program.Kind.{Kind}
-use Rattle.space.specs.declared.program.Kind.TheVariants.{PowerPc, Ia32}
-use Rattle.space.specs.declared.program.Program.{Program}
-use Rattle.space.specs.declared.call.End.{End}
+use Rattle.machines.specs.Prelude.{Kind, PowerPc, Ia32, Program, End, Instr, ReadsWords, Fetched, ReadsOps, guest_machine, guest_start, host_machine, host_start}
 use Rattle.space.specs.declared.call.End.TheVariants as ending
-use Rattle.elf_load.specs.Faults.{IsProgramOf, IsFirstFault}
+use Rattle.elf_load.specs.Prelude.{IsProgramOf, IsFirstFault}
 use Rattle.outside.specs.Causes.{Rose}
-use Rattle.ppc_isa.specs.declared.instr.Instr.{Instr}
-use Rattle.machines.specs.Readings.{ReadsWords, Fetched, ReadsOps}
-use Rattle.machines.specs.Guest.{guest_machine, guest_start}
-use Rattle.machines.specs.Host.{host_machine, host_start}
-use Rattle.runner.specs.Answers.{Bytes, HasWholeRun}
-use Rattle.runner.specs.Attending.{Streams, Told, Attended}
+use Rattle.runner.specs.Prelude.{Bytes, HasWholeRun, Streams, Told, Attended}
 use Rattle.runner.proofs.Whole.{whole_if_calm}
-use Rattle.trans_tool.specs.Whole.{IsLonger}
-use Rattle.trans_tool.specs.Seen.{Outside}
-use Rattle.trans_tool.specs.Listing.{kind_of, IsFile}
-use Rattle.trans_tool.specs.Lines.{IsTold}
-use Rattle.trans_tool.specs.Words.{IsUsage, IsRunLine, IsName, steps_option}
-use Rattle.trans_tool.specs.Running.{AttendedOn, RunsWholeOn, RanTo, EndsRun, cause_of}
-use Rattle.trans_tool.specs.Due.{IsDueEnd, IsDueRun, IsUnhinderedRun}
-use Rattle.trans_tool.specs.Top.{Comes}
-use Rattle.trans_tool.specs.declared.cause.Cause.{Cause}
+use Rattle.trans_tool.specs.Prelude.{IsLonger, Outside, kind_of, IsFile, IsTold, IsUsage, IsRunLine, IsName, steps_option, AttendedOn, RunsWholeOn, RanTo, EndsRun, cause_of, IsDueEnd, IsDueRun, IsUnhinderedRun, Comes, Cause}
 use Rattle.trans_tool.specs.declared.cause.Cause.TheVariants as cause
 use Rattle.trans_tool.proofs.Completing.{some_same, no_run, no_list, same_told}
 

@@ -1,12 +1,8 @@
 -- A file that gave no program, and the streams, which stand.
 use Rattle.std.proofs.Common.{ℕ, List, inl}
 use Rattle.std.specs.Prelude.{⊤}
-use Rattle.runner.specs.Attending.{Streams}
-use Rattle.trans_tool.specs.Seen.{Outside, Stream, StreamStands, StreamsStand}
-use Rattle.trans_tool.specs.Listing.{EndsListing, EndsUnread}
-use Rattle.trans_tool.specs.Running.{EndsRun}
-use Rattle.trans_tool.specs.declared.cause.Cause.{Cause}
-use Rattle.trans_tool.specs.declared.cause.Cause.TheVariants.{Done, GuestExit, Usage, BadElf, TooLong, FileRead, FileWrite, OutFault, ErrFault, Memory, StepsSpent, Trap, Illegal, DivideFault}
+use Rattle.runner.specs.Prelude.{Streams}
+use Rattle.trans_tool.specs.Prelude.{Outside, Stream, StreamStands, StreamsStand, EndsListing, EndsUnread, EndsRun, Cause, Done, GuestExit, Usage, BadElf, TooLong, FileRead, FileWrite, OutFault, ErrFault, Memory, StepsSpent, Trap, Illegal, DivideFault}
 use Rattle.trans_tool.specs.declared.cause.Cause.TheVariants as cause
 
 module _ (o : Outside) (file : List ℕ) where

@@ -1,14 +1,9 @@
 -- Which cause the bytes of a file are due to have, where nothing hinders the run.
 use Rattle.std.specs.Prelude.{◌≡◌, ◌<◌, ◌≤◌, IsTrue, ℕ, List, length, Option, Some}
-use Rattle.space.specs.declared.program.Kind.TheVariants.{PowerPc}
-use Rattle.space.specs.declared.program.Program.{Program}
-use Rattle.elf_load.specs.Faults.{IsProgramOf, IsFirstFault}
-use Rattle.space.specs.declared.call.End.{End}
-use Rattle.ppc_isa.specs.declared.instr.Instr.{Instr}
-use Rattle.machines.specs.Readings.{Fetched}
+use Rattle.machines.specs.Prelude.{PowerPc, Program, End, Instr, Fetched}
+use Rattle.elf_load.specs.Prelude.{IsProgramOf, IsFirstFault}
 use Rattle.outside.specs.Causes.{Rose}
-use Rattle.runner.specs.Answers.{Bytes}
-use Rattle.runner.specs.Attending.{Streams}
+use Rattle.runner.specs.Prelude.{Bytes, Streams}
 use Rattle.trans_tool.specs.Running.{RunsWholeOn, cause_of}
 use Rattle.trans_tool.specs.Words.{Spells, SpellsList, SpellsRun}
 use Rattle.trans_tool.specs.Seen.{Outside}

@@ -7,3 +7,4 @@ pub mod Listing
 pub mod Running
 pub mod Due
 pub mod Top
+pub mod Prelude

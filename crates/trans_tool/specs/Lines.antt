@@ -5,7 +5,7 @@ use Rattle.outside.specs.Causes.{Rose}
 use Rattle.outside.specs.Streams.{AppendsPrefix}
 use Rattle.trans_tool.specs.declared.cause.Cause.{Cause}
 use Rattle.trans_tool.specs.declared.cause.Cause.TheVariants.{Done, GuestExit, Usage, BadElf, TooLong, FileRead, FileWrite, OutFault, ErrFault, Memory, StepsSpent, Trap, Illegal, Outside, DivideFault}
-use Rattle.elf_load.specs.Rules.{number_of}
+use Rattle.elf_load.specs.Prelude.{number_of}
 
 abbrev pub code_of : Cause → ℕ
 code_of Done = 0

@@ -1,14 +1,10 @@
 -- What a run of `list FILE` did, by its cause.
 use Rattle.std.specs.Prelude.{◌≡◌, ◌<◌, ◌≤◌, ◌⊎◌, ◌==◌, IsTrue, if◌then◌else◌, ℕ, List, length, slice_index, Option, Some}
 use Rattle.std.specs.Io.KnownBytes.{Appends}
-use Rattle.space.specs.declared.program.Kind.{Kind}
-use Rattle.space.specs.declared.program.Kind.TheVariants.{PowerPc, Ia32}
-use Rattle.space.specs.declared.program.Program.{Program}
-use Rattle.elf_load.specs.Faults.{IsProgramOf, IsFirstFault}
+use Rattle.machines.specs.Prelude.{Kind, PowerPc, Ia32, Program, Instr, Op}
+use Rattle.elf_load.specs.Prelude.{IsProgramOf, IsFirstFault}
 use Rattle.elf_load.specs.declared.refusal.ElfRefusal.{ElfRefusal}
-use Rattle.ppc_isa.specs.declared.instr.Instr.{Instr}
 use Rattle.ppc_isa.specs.Legal.{IsReading as ReadsWords}
-use Rattle.ia_codec.specs.declared.op.Op.{Op}
 use Rattle.ia_codec.specs.Spelling.{IsReading as ReadsOps}
 use Rattle.listing.specs.Listing.{text_of}
 use Rattle.outside.specs.Causes.{Rose}

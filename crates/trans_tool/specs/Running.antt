@@ -1,17 +1,9 @@
 -- What a run of `run FILE` did, by its cause.
 use Rattle.std.specs.Prelude.{◌⊎◌, ℕ, List, [], Option}
-use Rattle.space.specs.declared.program.Kind.{Kind}
-use Rattle.space.specs.declared.program.Kind.TheVariants.{PowerPc, Ia32}
-use Rattle.space.specs.declared.program.Program.{Program}
-use Rattle.space.specs.declared.call.End.{End}
+use Rattle.machines.specs.Prelude.{Kind, PowerPc, Ia32, Program, End, Instr, ReadsWords, Fetched, ReadsOps, guest_machine, guest_start, host_machine, host_start}
 use Rattle.space.specs.declared.call.End.TheVariants as ending
-use Rattle.elf_load.specs.Faults.{IsProgramOf}
-use Rattle.ppc_isa.specs.declared.instr.Instr.{Instr}
-use Rattle.machines.specs.Readings.{ReadsWords, Fetched, ReadsOps}
-use Rattle.machines.specs.Guest.{guest_machine, guest_start}
-use Rattle.machines.specs.Host.{host_machine, host_start}
-use Rattle.runner.specs.Answers.{Bytes, HasWholeRun}
-use Rattle.runner.specs.Attending.{Streams, Told, Attended, AttendedPartly}
+use Rattle.elf_load.specs.Prelude.{IsProgramOf}
+use Rattle.runner.specs.Prelude.{Bytes, HasWholeRun, Streams, Told, Attended, AttendedPartly}
 use Rattle.trans_tool.specs.Seen.{Outside, StreamsStand}
 use Rattle.trans_tool.specs.Listing.{IsLoaded, EndsUnread}
 use Rattle.trans_tool.specs.declared.cause.Cause.{Cause}

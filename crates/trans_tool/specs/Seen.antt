@@ -1,5 +1,5 @@
 -- The files and the sinks before a run and behind it, by what they tell of themselves.
-use Rattle.runner.specs.Attending.{Streams}
+use Rattle.runner.specs.Prelude.{Streams}
 use Rattle.std.specs.Prelude.{◌≡◌, ◌≢◌, Bool, IsTrue, ℕ, List, Option}
 
 -- the files before a run and behind it

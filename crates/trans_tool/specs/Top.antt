@@ -1,6 +1,6 @@
 -- What a run of the tool did.
 use Rattle.std.specs.Prelude.{◌≡◌, ◌⊎◌, ℕ, List}
-use Rattle.runner.specs.Attending.{Streams}
+use Rattle.runner.specs.Prelude.{Streams}
 use Rattle.trans_tool.specs.Words.{Spells, SpellsList, SpellsRun, IsUsage}
 use Rattle.trans_tool.specs.Lines.{IsTold}
 use Rattle.trans_tool.specs.Seen.{Outside, StreamStands, InputStands, StreamsStand, FilesStand, output_in, errors_in}

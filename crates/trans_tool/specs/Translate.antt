@@ -1,8 +1,7 @@
 -- What a run of `translate IN OUT` did, by its cause.
 use Rattle.std.specs.Prelude.{◌≡◌, ◌<◌, ◌≤◌, ◌⊎◌, IsTrue, ℕ, List, length, Some}
-use Rattle.space.specs.declared.program.Kind.TheVariants.{PowerPc}
-use Rattle.space.specs.declared.program.Program.{Program}
-use Rattle.elf_load.specs.Faults.{IsProgramOf, IsFirstFault}
+use Rattle.machines.specs.Prelude.{PowerPc, Program}
+use Rattle.elf_load.specs.Prelude.{IsProgramOf, IsFirstFault}
 use Rattle.elf_load.specs.declared.refusal.ElfRefusal.{ElfRefusal}
 use Rattle.agreement.specs.Files.{Agrees}
 use Rattle.agreement.specs.Written.{Carries}

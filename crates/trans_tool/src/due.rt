@@ -1,9 +1,8 @@
 //! What a file's bytes are due to have is one cause.
 
 ghost use Rattle.std.specs.Prelude.{◌≡◌, List, Option, ℕ};
-ghost use Rattle.ppc_isa.specs.declared.instr.Instr.{Instr};
-ghost use Rattle.machines.specs.Readings.{Fetched};
-ghost use Rattle.runner.specs.Answers.{Bytes};
+ghost use Rattle.machines.specs.Prelude.{Instr, Fetched};
+ghost use Rattle.runner.specs.Prelude.{Bytes};
 ghost use Rattle.trans_tool.specs.Due.{IsDue, IsDueListing, IsDueRun};
 ghost use Rattle.trans_tool.specs.declared.cause.Cause.{Cause};
 

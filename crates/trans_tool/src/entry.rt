@@ -3,10 +3,8 @@
 ghost use Rattle.std.specs.Prelude.{◌≡◌, ◌≢◌, ◌<◌, ◌≤◌, ◌⊎◌, List, Option, ℕ, map, string_bytes};
 ghost use Rattle.outside.specs.Causes.{Rose};
 ghost use Rattle.trans_tool.specs.Lines.{code_of};
-ghost use Rattle.runner.specs.Answers.{Bytes};
-ghost use Rattle.runner.specs.Attending.{streams_by, Told};
-ghost use Rattle.machines.specs.Readings.{ReadsWords, Fetched, ReadsOps};
-ghost use Rattle.ppc_isa.specs.declared.instr.Instr.{Instr};
+ghost use Rattle.runner.specs.Prelude.{Bytes, streams_by, Told};
+ghost use Rattle.machines.specs.Prelude.{ReadsWords, Fetched, ReadsOps, Instr};
 ghost use Rattle.trans_tool.specs.Seen.{seen_by};
 ghost use Rattle.trans_tool.specs.Top.{Comes, Runs};
 ghost use Rattle.trans_tool.specs.Due.{IsDue, IsDueListing, IsDueRun, IsUnhindered, IsUnhinderedListing, IsUnhinderedRun};

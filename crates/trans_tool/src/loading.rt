@@ -2,7 +2,7 @@
 
 ghost use Rattle.std.specs.Prelude.{◌≡◌, ⊤, IfOk};
 ghost use Rattle.std.specs.Result.{IfErr};
-ghost use Rattle.elf_load.specs.Code.{HasLowCode};
+ghost use Rattle.elf_load.specs.Prelude.{HasLowCode};
 ghost use Rattle.trans_tool.specs.Seen.{seen_by, FilesStand};
 ghost use Rattle.trans_tool.specs.Listing.{EndsUnread, IsLoaded, kind_of};
 

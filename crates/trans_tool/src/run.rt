@@ -1,7 +1,7 @@
 //! The command `run FILE --steps=N`.
 
 ghost use Rattle.std.specs.Prelude.{◌≡◌, ◌≢◌, ◌≤◌, IfOk, OnErr};
-ghost use Rattle.runner.specs.Attending.{streams_by};
+ghost use Rattle.runner.specs.Prelude.{streams_by};
 ghost use Rattle.trans_tool.specs.Seen.{seen_by, FilesStand};
 ghost use Rattle.trans_tool.specs.Running.{EndsRun, IsLoadable, HasRunTo, HasRunPartly, cause_of};
 

@@ -1,8 +1,8 @@
 //! The command `translate IN OUT`.
 
 ghost use Rattle.std.specs.Prelude.{◌≡◌, ◌≤◌, ℕ, MatchResult, length};
-ghost use Rattle.space.specs.declared.program.Kind.TheVariants.{PowerPc};
-ghost use Rattle.elf_load.specs.Faults.{IsCause};
+ghost use Rattle.machines.specs.Prelude.{PowerPc};
+ghost use Rattle.elf_load.specs.Prelude.{IsCause};
 ghost use Rattle.trans_tool.specs.Seen.{seen_by};
 ghost use Rattle.trans_tool.specs.Translate.{Ends, IsAnswer};
 

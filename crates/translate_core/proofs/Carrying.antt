@@ -1,13 +1,10 @@
 -- What is put together of a program's code and file.
 use Rattle.std.proofs.Common.{◌≡◌, ℕ, ◌+◌, ◌<◌, ◌≤◌, List, length, sym, subst, arith}
-use Rattle.space.specs.declared.program.Kind.TheVariants.{Ia32}
-use Rattle.space.specs.declared.program.Program.{Program}
+use Rattle.machines.specs.Prelude.{Ia32, Program}
 use Rattle.branch_table.specs.declared.code.Code.{Code}
-use Rattle.elf_load.specs.Area.{IsHostArea}
-use Rattle.elf_load.specs.Faults.{IsProgramOf}
-use Rattle.elf_emit.specs.File.{elf_file}
-use Rattle.elf_emit.specs.Translation.{FitsArea, file_segments, translated}
-use Rattle.code_layout.specs.Layout.{IsCodeFor, IsLaidFor}
+use Rattle.elf_load.specs.Prelude.{IsHostArea, IsProgramOf}
+use Rattle.elf_emit.specs.Prelude.{elf_file, FitsArea, file_segments, translated}
+use Rattle.code_layout.specs.Prelude.{IsCodeFor, IsLaidFor}
 use Rattle.agreement.specs.Written.{Carries}
 
 -- the code begins with `hold`

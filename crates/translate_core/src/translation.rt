@@ -1,8 +1,8 @@
 //! The translation of a program.
 
 ghost use Rattle.std.specs.Prelude.{◌≡◌, ◌<◌, ℕ, List, IfOk, All};
-ghost use Rattle.space.specs.declared.program.Kind.TheVariants.{PowerPc};
-ghost use Rattle.elf_load.specs.Faults.{IsProgramOf};
+ghost use Rattle.machines.specs.Prelude.{PowerPc};
+ghost use Rattle.elf_load.specs.Prelude.{IsProgramOf};
 ghost use Rattle.agreement.specs.Files.{Agrees};
 ghost use Rattle.agreement.specs.Written.{Carries};
 

@@ -1,9 +1,8 @@
 -- Guests that are alike where every location is live.
 use Rattle.std.proofs.Common.{◌≡◌, ℕ, true, refl, sym, ap, ◌∙◌, subst}
 use Rattle.std.proofs.Math.Path.{fun_ext}
-use Rattle.runs.specs.Machine.{Outcome, Goes, Asks, Ends}
-use Rattle.machines.specs.Guest.{Guest, guest_executes}
-use Rattle.simulation.specs.Context.{SimulationContext, Alike, AreAlike}
+use Rattle.machines.specs.Prelude.{Outcome, Goes, Asks, Ends, Guest, guest_executes}
+use Rattle.simulation.specs.Prelude.{SimulationContext, Alike, AreAlike}
 use Rattle.upkeep.specs.Steps.{AllLiveIsEnough}
 
 abbrev made : (ℕ → ℕ) → ℕ → (ℕ → ℕ) → Guest

@@ -3,16 +3,12 @@ use Rattle.std.proofs.Common.{◌≡◌, ◌≢◌, ℕ, zero, suc, ◌+◌, ◌
 use Rattle.std.proofs.lemmas.Bool.Decides.{nat_tests}
 use Rattle.std.proofs.lemmas.Bool.{eqb-true, cases_lt}
 use Rattle.std.proofs.lemmas.List.Elements.{All-nil, All-cons, All-append, All-map}
-use Rattle.space.specs.declared.program.Program.{Program}
-use Rattle.elf_load.specs.Area.{IsArea}
-use Rattle.ppc_isa.specs.Map.{IsMap}
-use Rattle.reg_map.specs.Home.{home, home_size, location_range}
-use Rattle.machines.specs.Memory.{load, update, first_bytes}
-use Rattle.machines.specs.Guest.{stack_start, guest_start}
-use Rattle.machines.specs.Host.{Choice, Core, choice_at, chosen_word, host_start}
-use Rattle.code_layout.specs.Places.{no_registers}
-use Rattle.elf_emit.specs.Translation.{home_page}
-use Rattle.simulation.specs.Context.{MatchesState}
+use Rattle.machines.specs.Prelude.{Program, IsMap, load, update, first_bytes, stack_start, guest_start, Choice, Core, choice_at, chosen_word, host_start}
+use Rattle.elf_load.specs.Prelude.{IsArea}
+use Rattle.reg_map.specs.Prelude.{home, home_size, location_range}
+use Rattle.code_layout.specs.Prelude.{no_registers}
+use Rattle.elf_emit.specs.Prelude.{home_page}
+use Rattle.simulation.specs.Prelude.{MatchesState}
 use Rattle.upkeep.specs.Loaded.{AreBytes, HaveBytes}
 use Rattle.upkeep.specs.Written.{as_data, home_segment, table_segment, code_segment, written_segments, WrittenHasBytes, WrittenStarts}
 use Rattle.upkeep.proofs.Memory.{byte_in_front, byte_behind, first_byte}

@@ -4,15 +4,12 @@ use Rattle.std.specs.Prelude.{slice_get}
 use Rattle.std.proofs.lemmas.Bool.{cases_lt}
 use Rattle.std.proofs.lemmas.List.{length-append, length-map, get_or-append-add}
 use Rattle.std.proofs.lemmas.Option.{slice_get-get_or}
-use Rattle.space.specs.declared.program.Program.{Program}
-use Rattle.space.specs.declared.program.Segment.{Segment}
-use Rattle.elf_load.specs.Area.{IsArea}
-use Rattle.machines.specs.Memory.{Rights, Code, code_in, is_code, is_held, is_writable, is_within, rights_of, code_of, first_bytes}
-use Rattle.machines.specs.Agreement.{without}
-use Rattle.reg_map.specs.Representation.{IsHomePage, HasSegments}
+use Rattle.machines.specs.Prelude.{Program, Segment, Rights, Code, code_in, is_code, is_held, is_writable, is_within, rights_of, code_of, first_bytes, without}
+use Rattle.elf_load.specs.Prelude.{IsArea}
+use Rattle.reg_map.specs.Prelude.{IsHomePage, HasSegments}
 use Rattle.machines.proofs.Tests.{both}
 use Rattle.symbolic_tiles.proofs.PlaceLaws.{programs_write_held}
-use Rattle.elf_emit.specs.Translation.{home_page}
+use Rattle.elf_emit.specs.Prelude.{home_page}
 use Rattle.upkeep.specs.Written.{as_data, home_segment, table_segment, code_segment, written_segments, IsWritten, narrow_rights, host_code, WrittenIsInPlace}
 use Rattle.upkeep.proofs.Page.{page_length}
 use Rattle.upkeep.proofs.Memory.{within, from_within, not_true, held_in_front, held_behind, writable_in_front, writable_behind, byte_behind, free_of}

@@ -2,11 +2,9 @@
 use Rattle.std.proofs.Common.{ℕ, zero, suc, ◌-◌, ◌<◌, Bool, true, false, List, [], ◌∷◌, take, drop, sym, subst, arith}
 use Rattle.std.specs.Prelude.{if◌then◌else◌}
 use Rattle.std.proofs.lemmas.List.Elements.{All-nil, All-cons, All-append, All-take, All-drop, All-replicate}
-use Rattle.space.specs.declared.program.Kind.{Kind}
-use Rattle.space.specs.declared.program.Kind.TheVariants.{PowerPc, Ia32}
-use Rattle.elf_load.specs.Headers.{header, header_count, is_segment}
+use Rattle.machines.specs.Prelude.{Kind, PowerPc, Ia32}
+use Rattle.elf_load.specs.Prelude.{header, header_count, is_segment, zeros, segment_of, segments_before, stack, stack_for, segments_of}
 use Rattle.elf_load.specs.declared.headers.ProgramHeader.{ProgramHeader}
-use Rattle.elf_load.specs.Program.{zeros, segment_of, segments_before, stack, stack_for, segments_of}
 use Rattle.upkeep.specs.Loaded.{AreBytes, HaveBytes, LoadedHaveBytes}
 
 zeros_are_bytes : (n : ℕ) → AreBytes (zeros n)

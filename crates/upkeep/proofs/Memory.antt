@@ -2,9 +2,8 @@
 use Rattle.std.proofs.Common.{◌≡◌, ℕ, ◌+◌, ◌-◌, ◌<◌, ◌≤◌, Bool, true, false, cond, ◌&&◌, ◌||◌, leb, ltb, List, [], ◌∷◌, ◌++◌, length, map, get_or, refl, ap, arith}
 use Rattle.std.specs.List.{All}
 use Rattle.std.proofs.lemmas.List.Elements.{All-head, All-tail, All-get_or}
-use Rattle.space.specs.declared.program.Segment.{Segment}
-use Rattle.elf_load.specs.Area.{MeetsArea}
-use Rattle.machines.specs.Memory.{is_within, is_held, is_writable, first_bytes}
+use Rattle.machines.specs.Prelude.{Segment, is_within, is_held, is_writable, first_bytes}
+use Rattle.elf_load.specs.Prelude.{MeetsArea}
 use Rattle.machines.proofs.Tests.{both, first_of_both, second_of_both, below, is_below, upto, is_upto}
 use Rattle.upkeep.specs.Loaded.{AreBytes, HaveBytes}
 use Rattle.upkeep.specs.Written.{as_data}

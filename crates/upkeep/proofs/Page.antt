@@ -3,8 +3,8 @@ use Rattle.std.proofs.Common.{◌≡◌, ℕ, zero, suc, ◌-◌, ◌<◌, ◌�
 use Rattle.std.proofs.lemmas.Bool.{cases_lt}
 use Rattle.std.proofs.lemmas.List.{length-append, length-replicate, get_or-append_right, get_or_past, get_or-replicate}
 use Rattle.std.proofs.lemmas.List.Elements.{All-from_recursion, All-append, All-replicate}
-use Rattle.elf_emit.specs.Translation.{home_page}
-use Rattle.elf_load.specs.Program.{zeros}
+use Rattle.elf_emit.specs.Prelude.{home_page}
+use Rattle.elf_load.specs.Prelude.{zeros}
 use Rattle.upkeep.specs.Loaded.{AreBytes}
 
 -- the words of r0 and r1

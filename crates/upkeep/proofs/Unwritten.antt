@@ -1,24 +1,11 @@
 -- A step of the host keeps the bytes that may not be written.
 use Rattle.std.proofs.Common.{◌≡◌, ℕ, zero, suc, ◌+◌, ◌/◌, ◌%◌, ◌^◌, ◌≤◌, min, Bool, true, false, cond, ◌||◌, eqb, List, [], ◌∷◌, length, take, Option, Some, None, refl, sym, ap, ◌∙◌, subst, arith}
 use Rattle.std.proofs.lemmas.List.{length-take-le}
-use Rattle.space.specs.Reports.{Read, Write, Close, AnswerValue, Got, Took, Error, Given, Gives, Fails, given}
-use Rattle.space.specs.declared.call.End.TheVariants.{Outside, Exit, DivideFault}
-use Rattle.runs.specs.Machine.{Outcome, Goes, Ends}
-use Rattle.ia_codec.specs.declared.op.Op.{Op}
-use Rattle.ia_codec.specs.declared.op.Op.TheVariants.{AluTo, AluFrom, AluImm, TestReg, TestImm, Unary, Imul, MovTo, MovFrom, MovImm, MovToImm, MovHalfTo, MovByteTo, MovByteFrom, Shift, ShiftByCl, Lea, Extend, Bswap, Set, Cmov, Bsr, Cdq, Jcc, Jmp, JmpTo, Int80, Int3, Ud2}
-use Rattle.ia_codec.specs.declared.op.UnaryOp.{UnaryOp}
-use Rattle.ia_codec.specs.declared.op.UnaryOp.TheVariants.{Not, Neg, Div, Idiv}
-use Rattle.ia_codec.specs.declared.op.Operand.{Operand}
-use Rattle.ia_codec.specs.declared.op.Operand.TheVariants.{Reg}
-use Rattle.ia_codec.specs.Effect.{HostEffect}
-use Rattle.ia_codec.specs.Rows.{host_row}
-use Rattle.ia_codec.specs.Registers.{eax, ecx, edx, ebx}
-use Rattle.machines.specs.Memory.{update, store, block, put_block, each_byte, Rights, is_code}
-use Rattle.machines.specs.Readings.{Fetched}
-use Rattle.machines.specs.Host.{Choice, Core, Host, Place, Register, Memory, place_of, choice_at, has_result, extend_size, address_in, byte_for, puts_both, bind, host_values, reads, puts, put_at, leaves, gives_to, changes, sets, sets_byte, multiplies, unary_does, does, goes_to, plain, jumps, jumps_to, faults_on, divides, unary_acts, after_host_call, host_asks, host_system_call, host_acts, host_executes, op_bytes}
+use Rattle.machines.specs.Prelude.{Read, Write, Close, AnswerValue, Got, Took, Error, Given, Gives, Fails, given, Outside, Exit, DivideFault, Outcome, Goes, Ends, Op, AluTo, AluFrom, AluImm, TestReg, TestImm, Unary, Imul, MovTo, MovFrom, MovImm, MovToImm, MovHalfTo, MovByteTo, MovByteFrom, Shift, ShiftByCl, Lea, Extend, Bswap, Set, Cmov, Bsr, Cdq, Jcc, Jmp, JmpTo, Int80, Int3, Ud2, UnaryOp, Not, Neg, Div, Idiv, Operand, Reg, HostEffect, host_row, eax, ecx, edx, ebx, update, store, block, put_block, each_byte, Rights, is_code, Fetched, Choice, Core, Host, Place, Register, place_of, choice_at, has_result, extend_size, address_in, byte_for, puts_both, bind, host_values, reads, puts, put_at, leaves, gives_to, changes, sets, sets_byte, multiplies, unary_does, does, goes_to, plain, jumps, jumps_to, faults_on, divides, unary_acts, after_host_call, host_asks, host_system_call, host_acts, host_executes, op_bytes}
+use Rattle.machines.specs.Host.{Memory}
 use Rattle.machines.proofs.Tests.{first_of_both, second_of_both}
 use Rattle.symbolic_tiles.proofs.Memory.{update_other}
-use Rattle.simulation.specs.Context.{KeepsUnwritten, StepKeepsUnwritten}
+use Rattle.simulation.specs.Prelude.{KeepsUnwritten, StepKeepsUnwritten}
 use Rattle.upkeep.specs.Steps.{HostKeepsUnwritten, ContextKeepsUnwritten}
 
 clash : (b : Bool) → b ≡ true → b ≡ false → ⊥

@@ -1,10 +1,8 @@
 -- What the segments of an accepted file are made of. This project's own.
 use Rattle.std.specs.Prelude.{ℕ, ◌<◌, List}
 use Rattle.std.specs.List.{All}
-use Rattle.space.specs.declared.program.Kind.{Kind}
-use Rattle.space.specs.declared.program.Program.{Program}
-use Rattle.space.specs.declared.program.Segment.{Segment}
-use Rattle.elf_load.specs.Faults.{IsProgramOf}
+use Rattle.machines.specs.Prelude.{Kind, Program, Segment}
+use Rattle.elf_load.specs.Prelude.{IsProgramOf}
 
 -- each number is a byte
 abbrev pub AreBytes : List ℕ → Type 0

@@ -1,9 +1,7 @@
 -- What no step of either machine makes different. This project's own.
 use Rattle.std.specs.Prelude.{◌≡◌, ℕ, true, List, Option}
-use Rattle.machines.specs.Memory.{Rights, Code}
-use Rattle.machines.specs.Readings.{Fetched}
-use Rattle.machines.specs.Host.{Host, host_step}
-use Rattle.simulation.specs.Context.{SimulationContext, StepKeepsUnwritten, LiveIsEnough}
+use Rattle.machines.specs.Prelude.{Rights, Code, Fetched, Host, host_step}
+use Rattle.simulation.specs.Prelude.{SimulationContext, StepKeepsUnwritten, LiveIsEnough}
 
 -- no step writes a byte that may not be written
 abbrev pub HostKeepsUnwritten : Type 0

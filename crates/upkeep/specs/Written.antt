@@ -1,17 +1,11 @@
 -- What a written file lays out in memory, and where a run of it begins. This project's own.
 use Rattle.std.specs.Prelude.{◌≡◌, ℕ, ◌+◌, ◌<◌, ◌≤◌, true, false, List, [], ◌∷◌, ◌++◌, length, map, get_or}
-use Rattle.space.specs.declared.program.Program.{Program}
-use Rattle.space.specs.declared.program.Segment.{Segment}
-use Rattle.elf_load.specs.Area.{IsArea}
-use Rattle.machines.specs.Memory.{Rights, Code, rights_of, code_of, first_bytes}
-use Rattle.machines.specs.Guest.{guest_start}
-use Rattle.machines.specs.Host.{Choice, host_start}
-use Rattle.machines.specs.Agreement.{without}
-use Rattle.reg_map.specs.Representation.{IsHomePage, HasSegments}
-use Rattle.symbolic_tiles.specs.Row.{WritesHeld}
-use Rattle.elf_emit.specs.Translation.{home_page}
-use Rattle.simulation.specs.Context.{SimulationContext}
-use Rattle.simulation.specs.Relation.{Starts}
+use Rattle.machines.specs.Prelude.{Program, Segment, Rights, Code, rights_of, code_of, first_bytes, guest_start, Choice, host_start, without}
+use Rattle.elf_load.specs.Prelude.{IsArea}
+use Rattle.reg_map.specs.Prelude.{IsHomePage, HasSegments}
+use Rattle.symbolic_tiles.specs.Prelude.{WritesHeld}
+use Rattle.elf_emit.specs.Prelude.{home_page}
+use Rattle.simulation.specs.Prelude.{SimulationContext, Starts}
 use Rattle.upkeep.specs.Loaded.{AreBytes, HaveBytes}
 
 -- a segment of the source in the written file: nothing of it is run

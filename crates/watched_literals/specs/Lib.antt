@@ -4,3 +4,4 @@ pub mod Literals
 pub mod Watches
 pub mod Propagators
 pub mod Numbers
+pub mod Prelude

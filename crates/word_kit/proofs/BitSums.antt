@@ -8,8 +8,7 @@ use Rattle.std.proofs.lemmas.Nat.{or_lt, xor_lt}
 use Rattle.std.proofs.lemmas.Bool.Decides.{nat_tests}
 use Rattle.std.proofs.lemmas.Nat.Bits.{bit_at_and, bit_at_or, bit_at_xor}
 use Rattle.std.specs.Int.{bit_at}
-use Rattle.word_kit.specs.Words.{one_if, same}
-use Rattle.word_kit.specs.Bits.{bit_of, of_bits, word_and, word_or, word_xor}
+use Rattle.word_kit.specs.Prelude.{one_if, same, bit_of, of_bits, word_and, word_or, word_xor}
 
 -- the low bits of a number, and one more
 pub low_bits_suc : (z n : ℕ) → z % 2 ^ suc n ≡ z % 2 ^ n + z / 2 ^ n % 2 * 2 ^ n

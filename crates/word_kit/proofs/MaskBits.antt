@@ -5,8 +5,7 @@ use Rattle.std.proofs.Math.Pow.{pow_pos, pow_mono}
 use Rattle.std.proofs.lemmas.Bool.Decides.{nat_tests}
 use Rattle.std.proofs.lemmas.Nat.Bits.{ones_shr, bit_at_not, bit_at_mask_inside, bit_at_mask_below, bit_at_mask_above}
 use Rattle.std.specs.Int.{bit_at}
-use Rattle.word_kit.specs.Words.{one_if}
-use Rattle.word_kit.specs.Bits.{is_masked, mask}
+use Rattle.word_kit.specs.Prelude.{one_if, is_masked, mask}
 use Rattle.word_kit.proofs.BitSums.{of_bits-is}
 
 -- the ones from bit mb on, and those behind bit me

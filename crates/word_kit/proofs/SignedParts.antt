@@ -5,8 +5,7 @@ use Rattle.std.specs.Result.{result_ok}
 use Rattle.std.specs.Int.{IsNonZero}
 use Rattle.std.proofs.lemmas.Int.{ints, to_z-of_z, fits_signed_mul, fits_signed_from_abs, rem_below}
 use Rattle.std.proofs.lemmas.Bool.Decides.{nat_tests}
-use Rattle.word_kit.specs.Words.{signed, two_complement}
-use Rattle.word_kit.specs.Products.{product_high, fits_word}
+use Rattle.word_kit.specs.Prelude.{signed, two_complement, product_high, fits_word}
 
 signed_is : (x : ℕ) → x < 2 ^ 32 → to_z w32 x ≡ signed x
 signed_is x h = grind (arith, ints, nat_tests)

@@ -7,3 +7,4 @@ pub mod Algebra
 pub mod PlainOperations
 pub mod PlainRange
 pub mod Formulas
+pub mod Prelude

@@ -1,21 +1,7 @@
 -- Rows of PowerPC, worked out by hand. What Book I leaves undefined of a quotient is 0, which is this project's own.
 use Rattle.std.specs.Prelude.{ℕ, ◌≡◌, false}
-use Rattle.ppc_isa.specs.declared.instr.Instr.TheVariants.{CompareImmediate, Arithmetic, Logic, ShiftImmediate, LogicUnary, Compare, LoadUpdate, StoreUpdate, LoadIndexed, StoreIndexed, LoadIndexedUpdate, StoreIndexedUpdate}
-use Rattle.ppc_isa.specs.declared.instr.ArithmeticOp.{ArithmeticOp}
-use Rattle.ppc_isa.specs.declared.instr.ArithmeticOp.TheVariants.{Mulhw, Mulhwu, Divw, Divwu}
-use Rattle.ppc_isa.specs.declared.instr.LogicOp.TheVariants.{Sraw}
-use Rattle.ppc_isa.specs.declared.instr.LogicUnaryOp.TheVariants.{Cntlzw}
-use Rattle.ppc_isa.specs.declared.instr.CompareOp.{CompareOp}
-use Rattle.ppc_isa.specs.declared.instr.CompareOp.TheVariants.{Cmp, Cmpl}
-use Rattle.ppc_isa.specs.declared.instr.CompareImmediateOp.TheVariants.{Cmpi, Cmpli}
-use Rattle.ppc_isa.specs.declared.instr.LoadUpdateOp.TheVariants.{Lwzu, Lbzu, Lhzu}
-use Rattle.ppc_isa.specs.declared.instr.StoreUpdateOp.TheVariants.{Stbu, Sthu}
-use Rattle.ppc_isa.specs.declared.instr.LoadIndexedOp.TheVariants.{Lwzx, Lbzx, Lhzx, Lhax}
-use Rattle.ppc_isa.specs.declared.instr.StoreIndexedOp.TheVariants.{Stwx, Stbx, Sthx}
-use Rattle.ppc_isa.specs.declared.instr.LoadIndexedUpdateOp.TheVariants.{Lbzux, Lhzux, Lhaux}
-use Rattle.ppc_isa.specs.declared.instr.StoreIndexedUpdateOp.TheVariants.{Stwux, Sthux}
+use Rattle.machines.specs.Prelude.{CompareImmediate, Arithmetic, Logic, ShiftImmediate, LogicUnary, Compare, LoadUpdate, StoreUpdate, LoadIndexed, StoreIndexed, LoadIndexedUpdate, StoreIndexedUpdate, ArithmeticOp, Mulhw, Mulhwu, Divw, Divwu, Sraw, Cntlzw, CompareOp, Cmp, Cmpl, Cmpi, Cmpli, Lwzu, Lbzu, Lhzu, Stbu, Sthu, Lwzx, Lbzx, Lhzx, Lhax, Stwx, Stbx, Sthx, Lbzux, Lhzux, Lhaux, Stwux, Sthux, guest_row}
 use Rattle.ppc_isa.specs.Examples.{values, loading, load_of, store_of}
-use Rattle.ppc_isa.specs.Rows.{guest_row}
 
 -- rD of an op on rA and rB
 abbrev pub d_of : ArithmeticOp → ℕ → ℕ → ℕ

@@ -1,12 +1,8 @@
 -- Addresses of the host, and its calls with their answers, worked out by hand.
 use Rattle.std.specs.Prelude.{◌≡◌, ℕ, true, false, List, [], ◌∷◌, Option, Some, None}
-use Rattle.space.specs.Reports.{ListedCall, Read, Write, Close, AnswerValue, Got, Took, Error}
-use Rattle.runs.specs.Machine.{Outcome, Goes, Asks, Ends}
-use Rattle.ia_codec.specs.declared.op.Operand.TheVariants.{Base, Pair}
-use Rattle.ia_codec.specs.declared.op.Op.TheVariants.{Int80}
+use Rattle.machines.specs.Prelude.{ListedCall, Read, Write, Close, AnswerValue, Got, Took, Error, Outcome, Goes, Asks, Ends, Base, Pair, Int80, update, load, Rights, Host, place_of, host_acts}
 use Rattle.ia_codec.specs.RowExamples.{flags}
-use Rattle.machines.specs.Memory.{update, load, Rights}
-use Rattle.machines.specs.Host.{Host, Memory, place_of, host_acts}
+use Rattle.machines.specs.Host.{Memory}
 
 -- ebx is 0xfffffff0 and ecx 8, and the other registers are 0
 abbrev pub high_base : ℕ → ℕ

@@ -1,15 +1,6 @@
 -- Rows of IA-32, worked out by hand. Flags are CF, ZF, SF, OF; what is free is chosen as flags that are on.
 use Rattle.std.specs.Prelude.{◌≡◌, ℕ, true, false}
-use Rattle.ia_codec.specs.declared.op.Operand.TheVariants.{Reg}
-use Rattle.ia_codec.specs.declared.op.AluOp.{AluOp}
-use Rattle.ia_codec.specs.declared.op.AluOp.TheVariants.{Add, Adc, Sub, Sbb, And, Or, Xor, Cmp}
-use Rattle.ia_codec.specs.declared.op.ShiftOp.{ShiftOp}
-use Rattle.ia_codec.specs.declared.op.ShiftOp.TheVariants.{Rol, Ror, Shl, Shr, Sar}
-use Rattle.ia_codec.specs.declared.op.ExtendOp.TheVariants.{MovzxByte, MovsxByte, MovsxHalf}
-use Rattle.ia_codec.specs.declared.op.Condition.TheVariants.{Below}
-use Rattle.ia_codec.specs.declared.op.Op.TheVariants.{AluTo, TestReg, Shift, Extend, Cmov, Cdq}
-use Rattle.ia_codec.specs.Effect.{Flags, HostValues}
-use Rattle.ia_codec.specs.Rows.{host_row}
+use Rattle.machines.specs.Prelude.{Reg, AluOp, Add, Adc, Sub, Sbb, And, Or, Xor, Cmp, ShiftOp, Rol, Ror, Shl, Shr, Sar, MovzxByte, MovsxByte, MovsxHalf, Below, AluTo, TestReg, Shift, Extend, Cmov, Cdq, Flags, HostValues, host_row}
 use Rattle.ia_codec.specs.RowExamples.{flags, on, Makes}
 
 -- the same operands with a carry that comes in, and with all flags on

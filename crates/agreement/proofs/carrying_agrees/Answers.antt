@@ -3,16 +3,14 @@ use Rattle.std.specs.List.{flat_map}
 use Rattle.byteorder.specs.Endian.{little_bytes}
 use Rattle.branch_table.proofs.Words.{length_of_table}
 use Rattle.branch_table.specs.declared.code.Code.{Code}
-use Rattle.space.specs.declared.program.Kind.TheVariants.{Ia32}
-use Rattle.space.specs.declared.program.Program.{Program}
-use Rattle.elf_load.specs.Area.{IsArea}
-use Rattle.code_layout.specs.Places.{entry_of}
-use Rattle.code_layout.specs.Layout.{IsCodeFor, IsLaidFor}
+use Rattle.machines.specs.Prelude.{Ia32, Program}
+use Rattle.elf_load.specs.Prelude.{IsArea}
+use Rattle.code_layout.specs.Prelude.{entry_of, IsCodeFor, IsLaidFor}
 use Rattle.code_words.specs.Words.{first_of}
-use Rattle.laid_code.specs.Instance.{code_start, HasCodeFor}
+use Rattle.laid_code.specs.Prelude.{code_start, HasCodeFor}
 use Rattle.laid_code.proofs.Carried.{entry_at}
 use Rattle.upkeep.specs.Written.{IsWritten, IsInPlace}
-use Rattle.elf_emit.specs.Translation.{FitsArea, translated}
+use Rattle.elf_emit.specs.Prelude.{FitsArea, translated}
 use Rattle.agreement.specs.Written.{plain_interface}
 use Rattle.agreement.proofs.carrying_agrees.Goals as goal
 

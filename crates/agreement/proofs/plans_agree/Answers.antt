@@ -2,16 +2,11 @@ use Rattle.std.proofs.Common.{◌≡◌, ℕ, ◌+◌, ◌*◌, ◌<◌, ◌≤�
 use Rattle.std.specs.List.{flat_map}
 use Rattle.byteorder.specs.Endian.{little_bytes}
 use Rattle.branch_table.proofs.Words.{length_of_table}
-use Rattle.space.specs.declared.program.Program.{Program}
-use Rattle.elf_load.specs.Area.{IsArea}
-use Rattle.machines.specs.Memory.{Rights, code_of, first_bytes}
-use Rattle.machines.specs.Guest.{guest_start}
-use Rattle.machines.specs.Host.{host_start}
-use Rattle.machines.specs.Agreement.{AgreesNarrowly}
+use Rattle.machines.specs.Prelude.{Program, Rights, code_of, first_bytes, guest_start, host_start, AgreesNarrowly}
+use Rattle.elf_load.specs.Prelude.{IsArea}
 use Rattle.code_words.specs.Words.{first_of}
-use Rattle.simulation.specs.Context.{SimulationContext}
-use Rattle.simulation.specs.Relation.{IsTranslation}
-use Rattle.laid_code.specs.Instance.{context_of, HasTableOf}
+use Rattle.simulation.specs.Prelude.{SimulationContext, IsTranslation}
+use Rattle.laid_code.specs.Prelude.{context_of, HasTableOf}
 use Rattle.upkeep.specs.Written.{narrow_rights, IsInPlace}
 use Rattle.agreement.specs.Plans.{HasPlans}
 use Rattle.agreement.proofs.plans_agree.Goals as goal

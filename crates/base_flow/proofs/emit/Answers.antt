@@ -1,6 +1,6 @@
 use Rattle.std.proofs.Common.{sym, subst}
 use Rattle.std.proofs.lemmas.Result.{IfOk-weaker}
-use Rattle.symbolic_tiles.specs.Marks.{AreLaid}
+use Rattle.symbolic_tiles.specs.Prelude.{AreLaid}
 use Rattle.base_flow.proofs.Tiles.{tile_does, tile_marked, flow_tiles_are_laid}
 use Rattle.base_flow.proofs.emit.Goals as goal
 

@@ -1,6 +1,6 @@
 use Rattle.std.proofs.Common.{refl, arith}
 use Rattle.access.proofs.Steps.{no_byte, big_step, fits_next, small_next}
-use Rattle.machines.specs.Memory.{each_byte, load_big}
+use Rattle.machines.specs.Prelude.{each_byte, load_big}
 use Rattle.access.proofs.loads.load_big.Goals as goal
 
 pub loop-k-init : goal.loop-k-init

@@ -1,7 +1,5 @@
 use Rattle.std.proofs.Common.{◌≡◌, ◌<◌, ◌^◌, ℕ, true, false}
-use Rattle.space.specs.declared.program.Program.{Program}
-use Rattle.machines.specs.Memory.{each_byte}
-use Rattle.machines.specs.Memory.{load_big as big_number}
+use Rattle.machines.specs.Prelude.{Program, each_byte, load_big as big_number}
 use Rattle.access.specs.Kept.{Keeps, is_allowed}
 use Rattle.access.proofs.loads.load_big.Given as goal
 

@@ -1,7 +1,5 @@
 use Rattle.std.proofs.Common.{◌≡◌, ◌<◌, ◌≤◌, ◌^◌, ◌-◌, ◌+◌, ℕ, true, false}
-use Rattle.space.specs.declared.program.Program.{Program}
-use Rattle.machines.specs.Memory.{each_byte}
-use Rattle.machines.specs.Memory.{load as little_number}
+use Rattle.machines.specs.Prelude.{Program, each_byte, load as little_number}
 use Rattle.access.specs.Kept.{Keeps, is_allowed}
 use Rattle.access.proofs.loads.load_little.Given as goal
 

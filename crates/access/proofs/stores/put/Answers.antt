@@ -1,7 +1,7 @@
 use Rattle.std.proofs.Common.{get_or, refl, arith, ◌≡◌, take}
 use Rattle.std.proofs.lemmas.List.{take_all}
 use Rattle.access.proofs.Steps.{block_put}
-use Rattle.machines.specs.Memory.{put_block}
+use Rattle.machines.specs.Prelude.{put_block}
 use Rattle.access.proofs.stores.put.Goals as goal
 
 pub loop-byte-init : goal.loop-byte-init

@@ -1,6 +1,5 @@
 use Rattle.std.proofs.Common.{◌≡◌, ◌+◌, ◌%◌, ◌^◌, ℕ, take}
-use Rattle.space.specs.declared.program.Program.{Program}
-use Rattle.machines.specs.Memory.{put_block}
+use Rattle.machines.specs.Prelude.{Program, put_block}
 use Rattle.access.specs.Kept.{Keeps}
 use Rattle.access.proofs.stores.put.Given as goal
 

@@ -1,6 +1,5 @@
 use Rattle.std.proofs.Common.{◌/◌, ◌^◌, ◌-◌, ℕ}
-use Rattle.space.specs.declared.program.Program.{Program}
-use Rattle.machines.specs.Memory.{store_big as big_stored}
+use Rattle.machines.specs.Prelude.{Program, store_big as big_stored}
 use Rattle.access.specs.Kept.{Keeps}
 use Rattle.access.proofs.stores.store_big.Given as goal
 

@@ -1,6 +1,5 @@
 use Rattle.std.proofs.Common.{ℕ}
-use Rattle.space.specs.declared.program.Program.{Program}
-use Rattle.machines.specs.Memory.{store as little_stored}
+use Rattle.machines.specs.Prelude.{Program, store as little_stored}
 use Rattle.access.specs.Kept.{Keeps}
 use Rattle.access.proofs.stores.store_little.Given as goal
 

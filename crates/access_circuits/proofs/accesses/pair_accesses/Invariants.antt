@@ -1,5 +1,5 @@
 use Rattle.std.proofs.Common.{◌≡◌, ℕ, ◌<◌, Bool, List, length, get_or}
-use Rattle.circuit.specs.Miters.{AreOwned}
+use Rattle.circuit.specs.Prelude.{AreOwned}
 use Rattle.chosen_inputs.specs.Pairs.{AreAlike}
 use Rattle.row_runs.specs.Accesses.{Accessed}
 use Rattle.access_circuits.specs.Lists.{no_access, AreAccesses, AccessesOwned, AreShapedAlike}

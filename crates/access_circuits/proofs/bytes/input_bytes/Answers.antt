@@ -1,5 +1,5 @@
 use Rattle.std.proofs.Common.{◌≡◌, arith}
-use Rattle.circuit.specs.Literals.{word_value}
+use Rattle.circuit.specs.Prelude.{word_value}
 use Rattle.chosen_inputs.specs.Choices.{both, chosen_map}
 use Rattle.access_circuits.proofs.Four.{four}
 use Rattle.access_circuits.proofs.bytes.input_bytes.Goals as goal

@@ -1,7 +1,7 @@
 use Rattle.std.proofs.Common.{◌≤◌, List, length, All, sym, subst}
-use Rattle.ia_codec.specs.declared.op.Op.{Op}
-use Rattle.reg_map.specs.Relocated.{IsPlaceable}
-use Rattle.symbolic_tiles.specs.Row.{DoesRowAt}
+use Rattle.machines.specs.Prelude.{Op}
+use Rattle.reg_map.specs.Prelude.{IsPlaceable}
+use Rattle.symbolic_tiles.specs.Prelude.{DoesRowAt}
 use Rattle.base_mem.proofs.Tiles.{tiles_do_rows, tiles_are_placeable, tiles_are_short}
 use Rattle.base_mem.proofs.tile.emit.Goals as goal
 

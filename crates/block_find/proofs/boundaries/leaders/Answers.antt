@@ -1,7 +1,6 @@
 use Rattle.std.proofs.Common.{◌≡◌, ℕ, ◌+◌, List, Bool, length, sym, subst, arith}
 use Rattle.block_find.specs.Marks as mark
-use Rattle.block_find.specs.Blocks.{IsIn}
-use Rattle.block_find.specs.Marks.{AreMarked, AreCut}
+use Rattle.block_find.specs.Prelude.{IsIn, AreMarked, AreCut}
 use Rattle.block_find.proofs.Cutting.{are_leaders, cut_none, cut_more}
 use Rattle.block_find.proofs.boundaries.leaders.Goals as goal
 

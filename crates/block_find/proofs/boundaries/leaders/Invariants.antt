@@ -1,5 +1,5 @@
 use Rattle.std.proofs.Common.{length}
-use Rattle.block_find.specs.Marks.{AreMarked, AreCut}
+use Rattle.block_find.specs.Prelude.{AreMarked, AreCut}
 use Rattle.block_find.proofs.boundaries.leaders.Given as goal
 
 abbrev pub invariant-loop-place : goal.invariant-loop-place

@@ -1,5 +1,5 @@
 use Rattle.std.proofs.Common.{◌≡◌, ℕ, ◌+◌, true, false, sym, ◌∙◌, arith, refl}
-use Rattle.block_find.specs.Branches.{IsFlow}
+use Rattle.block_find.specs.Prelude.{IsFlow}
 use Rattle.block_find.proofs.Marking.{gains_one, gains_none}
 use Rattle.block_find.proofs.boundaries.mark_behind.Goals as goal
 use Rattle.block_find.proofs.boundaries.mark_behind.Goals.{else-is_flow_word-via-then-is_flow_word+else-place-marks, else-is_flow_word-via-else-is_flow_word}

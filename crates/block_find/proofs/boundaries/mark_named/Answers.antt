@@ -1,5 +1,5 @@
 use Rattle.std.proofs.Common.{arith}
-use Rattle.block_find.specs.Branches.{Names}
+use Rattle.block_find.specs.Prelude.{Names}
 use Rattle.block_find.proofs.Marking.{gains_one}
 use Rattle.block_find.proofs.boundaries.mark_named.Goals as goal
 

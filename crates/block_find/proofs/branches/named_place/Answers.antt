@@ -1,5 +1,5 @@
 use Rattle.std.proofs.Common.{◌≡◌, ◌∙◌, ap, sym, ℕ}
-use Rattle.block_find.specs.Branches.{address_of, named_address}
+use Rattle.block_find.specs.Prelude.{address_of, named_address}
 use Rattle.block_find.proofs.Reading.{by_address}
 use Rattle.block_find.proofs.branches.named_place.Goals as goal
 

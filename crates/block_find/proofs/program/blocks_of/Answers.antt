@@ -1,6 +1,5 @@
 use Rattle.std.proofs.Common.{◌≡◌, ℕ, List, Bool, All, length, sym, ◌∙◌, subst}
-use Rattle.block_find.specs.Blocks.{IsWithin, singles_of}
-use Rattle.block_find.specs.declared.spans.Run.{Run}
+use Rattle.block_find.specs.Prelude.{IsWithin, singles_of, Run}
 use Rattle.block_find.proofs.Gathering.{runs_within, singles_within}
 use Rattle.block_find.proofs.program.blocks_of.Goals as goal
 

@@ -1,5 +1,5 @@
 use Rattle.std.proofs.Common.{◌≡◌, map, take}
-use Rattle.block_find.specs.Blocks.{block_of}
+use Rattle.block_find.specs.Prelude.{block_of}
 use Rattle.block_find.proofs.program.with_words.Given as goal
 
 abbrev pub invariant-loop-run : goal.invariant-loop-run

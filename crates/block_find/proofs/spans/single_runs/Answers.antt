@@ -1,5 +1,5 @@
 use Rattle.std.proofs.Common.{◌∙◌, ◌++◌, ◌∷◌, [], ap, sym}
-use Rattle.block_find.specs.Blocks.{alone}
+use Rattle.block_find.specs.Prelude.{alone}
 use Rattle.block_find.proofs.SingleWords.{single_more, single_less}
 use Rattle.block_find.proofs.spans.single_runs.Goals as goal
 use Rattle.block_find.proofs.spans.single_runs.Goals.{then-not-leads-place+in_ok-push, else-not-leads-place}

@@ -1,5 +1,5 @@
 use Rattle.std.proofs.Common.{◌≡◌}
-use Rattle.block_find.specs.Blocks.{singles_of}
+use Rattle.block_find.specs.Prelude.{singles_of}
 use Rattle.block_find.proofs.spans.single_runs.Given as goal
 
 abbrev pub invariant-loop-place : goal.invariant-loop-place

@@ -1,6 +1,6 @@
 use Rattle.std.proofs.Common.{◌≡◌, ◌+◌, length, sym, ◌∙◌, ap, subst, arith, length-append, pos}
 use Rattle.word_kit.proofs.Later.{later-refl, later-trans}
-use Rattle.circuit.specs.Frame.{IsLater}
+use Rattle.circuit.specs.Prelude.{IsLater}
 use Rattle.circuit.specs.declared.literals.Lit.TheVariants.{Var}
 use Rattle.circuit.proofs.Meanings.{put_owned, length_word_of}
 use Rattle.chosen_inputs.specs.Inputs.{word_of_inputs, input_bit}

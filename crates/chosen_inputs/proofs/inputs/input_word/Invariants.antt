@@ -1,7 +1,5 @@
 use Rattle.std.proofs.Common.{◌≡◌, ℕ, ◌+◌, ◌<◌, ◌≤◌, length}
-use Rattle.circuit.specs.Literals.{word_reach_below}
-use Rattle.circuit.specs.Nodes.{IsInput}
-use Rattle.circuit.specs.Frame.{IsLater}
+use Rattle.circuit.specs.Prelude.{word_reach_below, IsInput, IsLater}
 use Rattle.chosen_inputs.specs.Inputs.{with_inputs, word_of_inputs}
 use Rattle.chosen_inputs.proofs.inputs.input_word.Given as goal
 

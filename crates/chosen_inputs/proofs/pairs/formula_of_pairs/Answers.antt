@@ -1,4 +1,4 @@
-use Rattle.circuit.specs.Miters.{CanDiffer, IsSatisfiable}
+use Rattle.circuit.specs.Prelude.{CanDiffer, IsSatisfiable}
 use Rattle.chosen_inputs.proofs.Alike.{none_differs, refuted}
 use Rattle.chosen_inputs.proofs.pairs.formula_of_pairs.Goals as goal
 

@@ -1,7 +1,6 @@
 use Rattle.std.proofs.Common.{◌≡◌, ◌∙◌, ◌++◌, ◌+◌, ap, subst, sym, false, get_or, arith, rules, w32}
 use Rattle.std.proofs.lemmas.Int.{to_z-of_z}
-use Rattle.circuit.specs.Clauses.{chosen_clauses}
-use Rattle.circuit.specs.declared.nodes.Node.TheVariants.{Input}
+use Rattle.circuit.specs.Prelude.{chosen_clauses, Input}
 use Rattle.circuit.proofs.Appended.{push_chosen, pass_chosen, chosen_all, clauses_left}
 use Rattle.circuit.proofs.clauses.chosen_clauses.Goals as goal
 use Rattle.circuit.proofs.clauses.chosen_clauses.Goals.{then-chosen-k+in_ok-push_gate, else-chosen-k}

@@ -1,5 +1,5 @@
 use Rattle.std.proofs.Common.{◌≡◌, ◌++◌, false, get_or}
-use Rattle.circuit.specs.Clauses.{chosen_clauses}
+use Rattle.circuit.specs.Prelude.{chosen_clauses}
 use Rattle.circuit.proofs.Appended.{clauses_left}
 use Rattle.circuit.proofs.clauses.chosen_clauses.Given as goal
 

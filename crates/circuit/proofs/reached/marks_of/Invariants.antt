@@ -1,5 +1,5 @@
 use Rattle.std.proofs.Common.{◌≡◌, false, take, replicate}
-use Rattle.circuit.specs.Marks.{marked}
+use Rattle.circuit.specs.Prelude.{marked}
 use Rattle.circuit.proofs.reached.marks_of.Given as goal
 
 abbrev pub invariant-loop-literal : goal.invariant-loop-literal

@@ -1,5 +1,5 @@
 use Rattle.std.proofs.Common.{rules, ◌<◌, length, arith, length-set}
-use Rattle.circuit.specs.WordsMade.{word_of, byte_bits}
+use Rattle.circuit.specs.Prelude.{word_of, byte_bits}
 use Rattle.circuit.proofs.Values.{wired_step, wired_none, whole}
 use Rattle.circuit.proofs.wiring.byte_word.Goals as goal
 

@@ -1,6 +1,5 @@
 use Rattle.std.proofs.Common.{rules, subst, sym, ◌<◌, ◌≤◌, length, arith, length-set}
-use Rattle.circuit.specs.Literals.{word_reach_below}
-use Rattle.circuit.specs.WordsMade.{word_of, not_bits}
+use Rattle.circuit.specs.Prelude.{word_reach_below, word_of, not_bits}
 use Rattle.circuit.proofs.Values.{wired_step, wired_none, whole, word_reach-at}
 use Rattle.circuit.proofs.Meanings.{not_owned}
 use Rattle.circuit.proofs.wiring.complement_of.Goals as goal

@@ -1,6 +1,5 @@
 use Rattle.std.proofs.Common.{rules, ap, ◌<◌, length, arith, length-set}
-use Rattle.circuit.specs.WordsMade.{word_of, lit_bits}
-use Rattle.circuit.specs.declared.literals.Lit.TheVariants.{Const}
+use Rattle.circuit.specs.Prelude.{word_of, lit_bits, Const}
 use Rattle.circuit.proofs.Values.{wired_step, wired_none, whole}
 use Rattle.circuit.proofs.wiring.literal_word.Goals as goal
 

@@ -1,5 +1,5 @@
 use Rattle.std.proofs.Common.{◌≡◌, length, take}
-use Rattle.circuit.specs.WordsMade.{word_of, lit_bits}
+use Rattle.circuit.specs.Prelude.{word_of, lit_bits}
 use Rattle.circuit.proofs.wiring.literal_word.Given as goal
 
 abbrev pub invariant-loop-i : goal.invariant-loop-i

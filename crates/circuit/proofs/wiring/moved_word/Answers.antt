@@ -1,7 +1,5 @@
 use Rattle.std.proofs.Common.{rules, subst, sym, ◌<◌, ◌≤◌, false, length, arith, length-set}
-use Rattle.circuit.specs.Literals.{word_reach_below}
-use Rattle.circuit.specs.WordsMade.{at, word_of, moved_by}
-use Rattle.circuit.specs.declared.literals.Lit.TheVariants.{Const}
+use Rattle.circuit.specs.Prelude.{word_reach_below, at, word_of, moved_by, Const}
 use Rattle.circuit.proofs.Values.{wired_step, wired_none, whole}
 use Rattle.circuit.proofs.Meanings.{moved_owned}
 use Rattle.circuit.proofs.wiring.moved_word.Goals as goal

@@ -1,6 +1,5 @@
 use Rattle.std.proofs.Common.{◌≡◌, false, length, take}
-use Rattle.circuit.specs.WordsMade.{at, word_of, moved_by}
-use Rattle.circuit.specs.declared.literals.Lit.TheVariants.{Const}
+use Rattle.circuit.specs.Prelude.{at, word_of, moved_by, Const}
 use Rattle.circuit.proofs.wiring.moved_word.Given as goal
 
 abbrev pub invariant-loop-i : goal.invariant-loop-i

@@ -1,7 +1,6 @@
 use Rattle.std.proofs.Common.{◌≤◌, ◌+◌, ◌*◌, All, List, length, arith}
 use Rattle.symbolic_tiles.specs.declared.flow_op.FlowOp.{FlowOp}
-use Rattle.code_layout.specs.Places.{no_moves}
-use Rattle.code_layout.specs.Code.{IsLaid, items_length}
+use Rattle.code_layout.specs.Prelude.{no_moves, IsLaid, items_length}
 use Rattle.code_layout.proofs.BlockItems.{block_laid, block_count, block_length, made_block}
 use Rattle.code_layout.proofs.block_code.block_items.Goals as goal
 

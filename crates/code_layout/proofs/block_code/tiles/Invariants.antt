@@ -1,5 +1,5 @@
 use Rattle.std.proofs.Common.{◌≡◌, ◌++◌, drop}
-use Rattle.code_layout.specs.Code.{block_items}
+use Rattle.code_layout.specs.Prelude.{block_items}
 use Rattle.code_layout.proofs.block_code.tiles.Given as goal
 
 abbrev pub invariant-loop-word : goal.invariant-loop-word

@@ -1,6 +1,5 @@
 use Rattle.std.proofs.Common.{◌≡◌, ◌+◌, ◌*◌, ◌≤◌, drop}
-use Rattle.code_layout.specs.Places.{no_moves}
-use Rattle.code_layout.specs.Code.{before_mark}
+use Rattle.code_layout.specs.Prelude.{no_moves, before_mark}
 use Rattle.code_layout.proofs.code.before_mark.Given as goal
 
 abbrev pub invariant-loop-item : goal.invariant-loop-item

@@ -1,6 +1,5 @@
 use Rattle.std.proofs.Common.{rules}
-use Rattle.ia_codec.specs.Spelling.{spelling}
-use Rattle.ia_codec.specs.declared.op.Op.TheVariants.{Jmp}
+use Rattle.machines.specs.Prelude.{spelling, Jmp}
 use Rattle.code_layout.proofs.Lengths.{spelled-length}
 use Rattle.code_layout.proofs.code.item_length.Goals as goal
 

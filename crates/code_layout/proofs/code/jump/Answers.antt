@@ -1,6 +1,6 @@
 use Rattle.std.proofs.Common.{Option, None, ap}
-use Rattle.ia_codec.specs.declared.op.Condition.{Condition}
-use Rattle.code_layout.specs.Code.{jump_on}
+use Rattle.machines.specs.Prelude.{Condition}
+use Rattle.code_layout.specs.Prelude.{jump_on}
 use Rattle.code_layout.proofs.Conditions.{condition-of}
 use Rattle.code_layout.proofs.code.jump.Goals as goal
 

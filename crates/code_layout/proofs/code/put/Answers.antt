@@ -1,6 +1,6 @@
 use Rattle.std.proofs.Common.{◌+◌, arith, refl, vec_len}
 use Rattle.std.proofs.lemmas.Grind.{common_steps}
-use Rattle.code_layout.specs.PlacesOf.{places_of}
+use Rattle.code_layout.specs.Prelude.{places_of}
 use Rattle.code_layout.proofs.Lengths.{length-more, length-all}
 use Rattle.code_layout.proofs.Laying.{whole-rest, bytes-more, bytes-all}
 use Rattle.code_layout.proofs.code.put.Goals as goal

@@ -1,7 +1,5 @@
 use Rattle.std.proofs.Common.{◌≡◌, ◌+◌, ◌*◌, ◌≤◌, ◌++◌, drop, vec_len}
-use Rattle.code_layout.specs.Places.{no_moves}
-use Rattle.code_layout.specs.PlacesOf.{places_of}
-use Rattle.code_layout.specs.Code.{items_length, items_bytes}
+use Rattle.code_layout.specs.Prelude.{no_moves, places_of, items_length, items_bytes}
 use Rattle.code_layout.proofs.code.put.Given as goal
 
 abbrev pub invariant-loop-place : goal.invariant-loop-place

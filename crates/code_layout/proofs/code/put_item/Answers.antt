@@ -1,8 +1,6 @@
-use Rattle.code_layout.specs.Places.{entry_of}
+use Rattle.code_layout.specs.Prelude.{entry_of}
 use Rattle.std.proofs.Common.{◌-◌, ◌%◌, ◌^◌, arith, ◌≡◌, ◌+◌, ◌++◌, ◌∙◌, ℕ, OnOk, ap, subst, length, vec_len, rules}
-use Rattle.ia_codec.specs.Spelling.{spelling}
-use Rattle.ia_codec.specs.declared.op.Op.{Op}
-use Rattle.ia_codec.specs.declared.op.Op.TheVariants.{Jmp}
+use Rattle.machines.specs.Prelude.{spelling, Op, Jmp}
 use Rattle.code_layout.proofs.Lengths.{spelled-length}
 use Rattle.code_layout.proofs.Laying.{op_at-length}
 use Rattle.code_layout.proofs.code.put_item.Goals as goal

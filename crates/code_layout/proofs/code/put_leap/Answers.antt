@@ -1,11 +1,6 @@
 use Rattle.std.proofs.Common.{◌≡◌, ◌+◌, ◌-◌, ◌%◌, ◌^◌, ◌++◌, ◌∙◌, ℕ, List, OnOk, ap, subst, length, vec_len, rules}
-use Rattle.ia_codec.specs.Spelling.{spelling}
-use Rattle.ia_codec.specs.declared.op.Condition.TheVariants.{NotBelow}
-use Rattle.ia_codec.specs.declared.op.Op.{Op}
-use Rattle.ia_codec.specs.declared.op.Operand.TheVariants.{Base}
-use Rattle.ia_codec.specs.declared.op.Op.TheVariants.{Jcc, JmpTo}
-use Rattle.code_layout.specs.Leap.{leap_ops}
-use Rattle.code_layout.specs.Code.{spelled}
+use Rattle.machines.specs.Prelude.{spelling, NotBelow, Op, Base, Jcc, JmpTo}
+use Rattle.code_layout.specs.Prelude.{leap_ops, spelled}
 use Rattle.code_layout.proofs.Spelled.{three-behind}
 use Rattle.code_layout.proofs.code.put_leap.Goals as goal
 

@@ -1,5 +1,5 @@
 use Rattle.std.proofs.Common.{◌≡◌, ◌+◌, ◌++◌, drop, length, vec_len}
-use Rattle.code_layout.specs.Code.{spelled}
+use Rattle.code_layout.specs.Prelude.{spelled}
 use Rattle.code_layout.proofs.code.put_ops.Given as goal
 
 abbrev pub invariant-loop-op : goal.invariant-loop-op

@@ -1,5 +1,5 @@
 use Rattle.std.proofs.Common.{◌≡◌, ◌<◌, ℕ, slice_index, vec_len}
-use Rattle.code_layout.specs.Decoded.{IsDecodedAs, decoded_at}
+use Rattle.code_layout.specs.Prelude.{IsDecodedAs, decoded_at}
 use Rattle.code_layout.proofs.decoded.decoded_words.Given as goal
 
 abbrev pub invariant-loop-word : goal.invariant-loop-word

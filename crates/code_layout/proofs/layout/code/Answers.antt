@@ -1,11 +1,8 @@
 use Rattle.std.proofs.Common.{◌≡◌, ◌<◌, ◌≤◌, ◌+◌, ◌*◌, List, ◌∙◌, length, ap, vec_len, rules, arith}
-use Rattle.block_find.specs.Laws.{all_blocks, block_at, word_count}
+use Rattle.block_find.specs.Prelude.{all_blocks, block_at, word_count}
 use Rattle.block_find.specs.declared.block.Block.{Block}
 use Rattle.symbolic_tiles.specs.declared.flow_op.FlowOp.{FlowOp}
-use Rattle.code_layout.specs.Places.{no_moves, Places}
-use Rattle.code_layout.specs.PlacesOf.{places_of}
-use Rattle.code_layout.specs.Code.{items_length}
-use Rattle.code_layout.specs.Layout.{items_of, code_bytes}
+use Rattle.code_layout.specs.Prelude.{no_moves, Places, places_of, items_length, items_of, code_bytes}
 use Rattle.code_layout.proofs.Laid.{laid_more, laid_all}
 use Rattle.code_layout.proofs.Blocks.{nowhere, few_blocks, few_taken, block_is, words_more, items_are}
 use Rattle.code_layout.proofs.layout.code.Goals as goal

@@ -1,8 +1,7 @@
 use Rattle.std.proofs.Common.{◌+◌, ◌*◌, ◌≤◌, ◌++◌, ◌≡◌, take, drop, vec_len}
 use Rattle.std.specs.List.{sum_by}
-use Rattle.block_find.specs.Laws.{all_blocks, word_count}
-use Rattle.code_layout.specs.PlacesOf.{places_of}
-use Rattle.code_layout.specs.Layout.{blocks_bytes, code_bytes}
+use Rattle.block_find.specs.Prelude.{all_blocks, word_count}
+use Rattle.code_layout.specs.Prelude.{places_of, blocks_bytes, code_bytes}
 use Rattle.code_layout.proofs.layout.code.Given as goal
 
 abbrev pub invariant-loop-block : goal.invariant-loop-block

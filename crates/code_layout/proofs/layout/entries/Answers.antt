@@ -1,10 +1,8 @@
 use Rattle.std.proofs.Common.{◌≡◌, ◌<◌, ◌≤◌, ◌+◌, ◌*◌, List, ◌∙◌, length, ap, rules, arith}
-use Rattle.block_find.specs.Laws.{all_blocks, block_at, word_count}
+use Rattle.block_find.specs.Prelude.{all_blocks, block_at, word_count}
 use Rattle.block_find.specs.declared.block.Block.{Block}
 use Rattle.symbolic_tiles.specs.declared.flow_op.FlowOp.{FlowOp}
-use Rattle.code_layout.specs.Places.{no_moves}
-use Rattle.code_layout.specs.Code.{items_length}
-use Rattle.code_layout.specs.Layout.{items_of, block_length, stands_at}
+use Rattle.code_layout.specs.Prelude.{no_moves, items_length, items_of, block_length, stands_at}
 use Rattle.code_layout.proofs.Blocks.{few_blocks, few_words, block_is, words_more, stands_more, items_are, each_more, each_begins}
 use Rattle.code_layout.proofs.layout.entries.Goals as goal
 

@@ -1,8 +1,7 @@
 use Rattle.std.proofs.Common.{◌≡◌, ◌+◌, ◌*◌, ◌<◌, ◌≤◌, ℕ, take, length, vec_len, slice_index}
 use Rattle.std.specs.List.{sum_by}
-use Rattle.block_find.specs.Laws.{all_blocks, block_at, word_count}
-use Rattle.code_layout.specs.Places.{place_of, no_moves}
-use Rattle.code_layout.specs.Layout.{stands_at}
+use Rattle.block_find.specs.Prelude.{all_blocks, block_at, word_count}
+use Rattle.code_layout.specs.Prelude.{place_of, no_moves, stands_at}
 use Rattle.code_layout.proofs.layout.entries.Given as goal
 
 abbrev pub invariant-loop-block : goal.invariant-loop-block

@@ -1,10 +1,9 @@
 use Rattle.std.proofs.Common.{◌≡◌, ◌<◌, List, length, ℕ, Option, slice_index, sym, ap, ◌∙◌, subst, rules}
 use Rattle.std.proofs.lemmas.List.{get_or_default}
-use Rattle.ppc_isa.specs.declared.instr.Instr.{Instr}
+use Rattle.machines.specs.Prelude.{Instr}
 use Rattle.code_words.specs.Words.{HasWords, first_of}
-use Rattle.block_find.specs.Blocks.{AreBlocksOf}
-use Rattle.code_layout.specs.Decoded.{AreDecodedAs}
-use Rattle.code_layout.specs.Places.{places_in}
+use Rattle.block_find.specs.Prelude.{AreBlocksOf}
+use Rattle.code_layout.specs.Prelude.{AreDecodedAs, places_in}
 use Rattle.code_layout.proofs.Program.{code_for, laid_for}
 use Rattle.code_layout.proofs.program_code.lay.Goals as goal
 

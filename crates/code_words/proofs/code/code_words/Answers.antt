@@ -1,5 +1,5 @@
 use Rattle.std.proofs.Common.{◌≡◌, ℕ, ◌+◌, ◌-◌, ◌≤◌, List, length, refl, sym, ◌∙◌, ap, subst}
-use Rattle.machines.specs.Memory.{code_of}
+use Rattle.machines.specs.Prelude.{code_of}
 use Rattle.code_words.proofs.Words.{words_of_code}
 use Rattle.code_words.proofs.code.code_words.Goals as goal
 

@@ -1,5 +1,5 @@
 use Rattle.std.proofs.Common.{append_assoc}
-use Rattle.elf_emit.specs.File.{identification}
+use Rattle.elf_emit.specs.Prelude.{identification}
 use Rattle.elf_emit.proofs.headers.put_identification.Goals as goal
 
 pub returns-clause-bytes : goal.returns-clause-bytes

@@ -1,5 +1,5 @@
 use Rattle.std.proofs.Common.{append_assoc}
-use Rattle.elf_emit.specs.File.{no_sections}
+use Rattle.elf_emit.specs.Prelude.{no_sections}
 use Rattle.elf_emit.proofs.headers.put_no_sections.Goals as goal
 
 pub returns-clause-bytes : goal.returns-clause-bytes

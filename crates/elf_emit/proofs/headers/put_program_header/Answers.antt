@@ -1,5 +1,5 @@
 use Rattle.std.proofs.Common.{append_assoc}
-use Rattle.elf_emit.specs.File.{program_header}
+use Rattle.elf_emit.specs.Prelude.{program_header}
 use Rattle.elf_emit.proofs.headers.put_program_header.Goals as goal
 
 pub returns-clause-bytes : goal.returns-clause-bytes

@@ -1,6 +1,5 @@
 use Rattle.std.proofs.Common.{◌≡◌, map, take}
-use Rattle.elf_emit.specs.Parts.{all_shown}
-use Rattle.elf_emit.specs.Translation.{source}
+use Rattle.elf_emit.specs.Prelude.{all_shown, source}
 use Rattle.elf_emit.proofs.part.source_parts.Given as goal
 
 abbrev pub invariant-loop-segment : goal.invariant-loop-segment

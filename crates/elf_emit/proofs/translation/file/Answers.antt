@@ -1,6 +1,5 @@
 use Rattle.std.proofs.Common.{rules, ◌∙◌, ap}
-use Rattle.elf_emit.specs.Parts.{all_shown}
-use Rattle.elf_emit.specs.Translation.{file_segments}
+use Rattle.elf_emit.specs.Prelude.{all_shown, file_segments}
 use Rattle.elf_emit.proofs.WholeFile.{few_parts, written_file, written_program}
 use Rattle.elf_emit.proofs.translation.file.Goals as goal
 

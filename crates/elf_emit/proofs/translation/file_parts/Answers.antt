@@ -1,7 +1,7 @@
 use Rattle.std.proofs.Common.{rules, ◌≡◌, ◌<◌, ◌*◌, ◌∙◌, List, length, refl, subst, sym, ap}
 use Rattle.space.specs.declared.program.Segment.{Segment}
 use Rattle.std.specs.List.{All}
-use Rattle.elf_emit.specs.Translation.{home, table, ops}
+use Rattle.elf_emit.specs.Prelude.{home, table, ops}
 use Rattle.elf_emit.proofs.Loadable.{length_home_page, length_of_table}
 use Rattle.elf_emit.proofs.WholeFile.{segments_short, is_whole, parts_of_file}
 use Rattle.elf_emit.proofs.translation.file_parts.Goals as goal

@@ -1,6 +1,5 @@
 use Rattle.std.proofs.Common.{◌≡◌, ◌≤◌, ◌++◌, drop, vec_len}
-use Rattle.elf_emit.specs.File.{contents}
-use Rattle.elf_emit.specs.Parts.{all_shown}
+use Rattle.elf_emit.specs.Prelude.{contents, all_shown}
 use Rattle.elf_emit.proofs.Placing.{most, limit}
 use Rattle.elf_emit.proofs.writer.put_contents.Given as goal
 

@@ -1,6 +1,5 @@
 use Rattle.std.proofs.Common.{◌≡◌, ◌+◌, ◌*◌, ◌≤◌, ◌++◌, drop, length, vec_len}
-use Rattle.elf_emit.specs.File.{program_headers, headers_end}
-use Rattle.elf_emit.specs.Parts.{all_shown}
+use Rattle.elf_emit.specs.Prelude.{program_headers, headers_end, all_shown}
 use Rattle.elf_emit.proofs.Placing.{most, limit}
 use Rattle.elf_emit.proofs.writer.put_program_headers.Given as goal
 

@@ -1,6 +1,6 @@
 use Rattle.std.proofs.Common.{arith, rules}
 use Rattle.space.specs.declared.program.Segment.{Segment}
-use Rattle.elf_load.specs.Area.{MeetsArea}
+use Rattle.elf_load.specs.Prelude.{MeetsArea}
 use Rattle.elf_load.proofs.Free.{below_next}
 use Rattle.elf_load.proofs.area.end_of_meeting.Goals as goal
 

@@ -1,6 +1,6 @@
 use Rattle.std.proofs.Common.{ℕ, ◌<◌, get_or}
 use Rattle.space.specs.declared.program.Segment.{Segment}
-use Rattle.elf_load.specs.Area.{MeetsArea}
+use Rattle.elf_load.specs.Prelude.{MeetsArea}
 use Rattle.elf_load.proofs.area.end_of_meeting.Given as goal
 
 abbrev pub invariant-loop-s : goal.invariant-loop-s

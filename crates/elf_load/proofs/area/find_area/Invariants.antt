@@ -1,5 +1,5 @@
 use Rattle.std.proofs.Common.{ℕ, ◌≡◌, ◌<◌, ◌≤◌, ◌-◌, ◌%◌}
-use Rattle.elf_load.specs.Area.{IsArea}
+use Rattle.elf_load.specs.Prelude.{IsArea}
 use Rattle.elf_load.proofs.area.find_area.Given as goal
 
 abbrev pub invariant-loop-at : goal.invariant-loop-at

@@ -1,7 +1,6 @@
 use Rattle.std.proofs.Common.{refl, subst, ◌∙◌, List}
 use Rattle.space.specs.declared.program.Segment.{Segment}
-use Rattle.elf_load.specs.Area.{IsArea}
-use Rattle.elf_load.specs.declared.refusal.ElfRefusal.TheVariants.{NoRoom}
+use Rattle.elf_load.specs.Prelude.{IsArea, NoRoom}
 use Rattle.elf_load.proofs.area.host_area.Goals as goal
 
 pub unreachable-requires : goal.unreachable-requires

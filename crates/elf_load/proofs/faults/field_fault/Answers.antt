@@ -1,6 +1,5 @@
 use Rattle.std.proofs.Common.{sym, subst}
-use Rattle.elf_load.specs.Faults.{IsFault}
-use Rattle.elf_load.specs.declared.refusal.ElfRefusal.{ElfRefusal}
+use Rattle.elf_load.specs.Prelude.{IsFault, ElfRefusal}
 use Rattle.elf_load.proofs.faults.field_fault.Goals as goal
 
 pub returns-in-Version : goal.returns-in-Version

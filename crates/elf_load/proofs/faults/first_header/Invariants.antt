@@ -1,5 +1,5 @@
 use Rattle.std.proofs.Common.{ℕ, ◌<◌}
-use Rattle.elf_load.specs.Faults.{Breaks}
+use Rattle.elf_load.specs.Prelude.{Breaks}
 use Rattle.elf_load.proofs.faults.first_header.Given as goal
 
 abbrev pub invariant-loop-i : goal.invariant-loop-i

@@ -1,6 +1,6 @@
 use Rattle.std.proofs.Common.{◌≡◌, ℕ, ◌<◌}
 use Rattle.std.specs.Prelude.{IsTrue, MatchOption}
-use Rattle.elf_load.specs.Headers.{header, is_code}
+use Rattle.elf_load.specs.Prelude.{header, is_code}
 use Rattle.elf_load.proofs.faults.has_one_code.Given as goal
 
 -- what has been found is the one code segment of the headers so far

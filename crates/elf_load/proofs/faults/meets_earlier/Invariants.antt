@@ -1,6 +1,6 @@
 use Rattle.std.proofs.Common.{ℕ, ◌<◌}
 use Rattle.std.specs.Prelude.{IsTrue}
-use Rattle.elf_load.specs.Headers.{header, is_segment, SharesAddress}
+use Rattle.elf_load.specs.Prelude.{header, is_segment, SharesAddress}
 use Rattle.elf_load.proofs.faults.meets_earlier.Given as goal
 
 abbrev pub invariant-loop-i : goal.invariant-loop-i

@@ -1,5 +1,5 @@
 use Rattle.std.proofs.Common.{◌≡◌, ◌≤◌, ◌*◌}
-use Rattle.elf_load.specs.Faults.{memory_before}
+use Rattle.elf_load.specs.Prelude.{memory_before}
 use Rattle.elf_load.proofs.faults.memory_asked.Given as goal
 
 abbrev pub invariant-loop-i : goal.invariant-loop-i

@@ -1,7 +1,7 @@
 use Rattle.std.proofs.Common.{◌≡◌, List, None, subst, ◌∙◌}
 use Rattle.std.specs.List.{position}
 use Rattle.space.specs.declared.program.Segment.{Segment}
-use Rattle.elf_load.specs.Program.{is_code_segment}
+use Rattle.elf_load.specs.Prelude.{is_code_segment}
 use Rattle.elf_load.proofs.CodePlace.{code_is_found}
 use Rattle.elf_load.proofs.loading.lay_out.Goals as goal
 

@@ -1,5 +1,5 @@
 use Rattle.std.proofs.Common.{◌≡◌, ◌<◌, true, false, sym, ◌∙◌, lit≤, arith}
-use Rattle.elf_load.specs.Headers.{header_count, is_segment}
+use Rattle.elf_load.specs.Prelude.{header_count, is_segment}
 use Rattle.std.proofs.lemmas.Grind.{common_steps}
 use Rattle.elf_load.proofs.Steps.{segments_with, segments_without}
 use Rattle.elf_load.proofs.loading.read_segments.Goals.{then-is_segment+in_ok-read_segment+in_ok-push, else-is_segment}

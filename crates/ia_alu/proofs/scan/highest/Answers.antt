@@ -1,5 +1,5 @@
 use Rattle.std.proofs.Common.{◌≡◌, ℕ, ◌+◌, add-one, rules, refl}
-use Rattle.word_kit.specs.Operations.{Operations}
+use Rattle.word_kit.specs.Prelude.{Operations}
 use Rattle.ia_alu.specs.Parts.{highest_term}
 use Rattle.ia_alu.proofs.scan.highest.Goals as goal
 

@@ -1,6 +1,6 @@
 use Rattle.std.proofs.Common.{◌≡◌}
-use Rattle.word_kit.specs.Algebra.{IsLater, GivesWord}
-use Rattle.word_kit.specs.PlainOperations.{plain_operations}
+use Rattle.word_kit.specs.Prelude.{GivesWord, plain_operations}
+use Rattle.word_kit.specs.Algebra.{IsLater}
 use Rattle.ia_alu.specs.Parts.{highest_term}
 use Rattle.ia_alu.proofs.scan.highest.Given as goal
 

@@ -1,6 +1,5 @@
 use Rattle.std.proofs.Common.{subst}
-use Rattle.ia_codec.specs.Spelling.{IsSpelt}
-use Rattle.ia_codec.specs.declared.op.Op.{Op}
+use Rattle.ia_codec.specs.Prelude.{IsSpelt, Op}
 use Rattle.ia_codec.proofs.Spelt.{not_spelt-unread, spelt-is_read, one_spelt}
 use Rattle.ia_codec.proofs.decoding.decode.Goals as goal
 

@@ -1,5 +1,5 @@
 use Rattle.std.proofs.Common.{refl}
-use Rattle.ia_codec.specs.Scan.{highest_one}
+use Rattle.ia_codec.specs.Prelude.{highest_one}
 use Rattle.ia_codec.proofs.examples.other_rows_by_hand.Goals as goal
 
 pub returns : goal.returns

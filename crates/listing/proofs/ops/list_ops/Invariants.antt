@@ -1,6 +1,6 @@
 use Rattle.std.proofs.Common.{ℕ, ◌+◌, ◌-◌, ◌≤◌, List, Option, length, drop}
 use Rattle.ia_codec.specs.declared.op.Op.{Op}
-use Rattle.ia_codec.specs.Spelling.{IsReading}
+use Rattle.ia_codec.specs.Prelude.{IsReading}
 use Rattle.listing.specs.Ops.{op_lines}
 use Rattle.listing.proofs.Halfway.{Halfway}
 use Rattle.listing.proofs.ops.list_ops.Given as goal

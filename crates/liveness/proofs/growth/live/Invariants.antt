@@ -1,7 +1,6 @@
 use Rattle.std.proofs.Common.{ℕ, length}
 use Rattle.liveness.specs.Flows.{Leads}
-use Rattle.liveness.specs.Namers.{AreNamers}
-use Rattle.liveness.specs.Growth.{IsUnder, IsSettled, work}
+use Rattle.liveness.specs.Prelude.{AreNamers, IsUnder, IsSettled, work}
 use Rattle.liveness.proofs.growth.live.Given as goal
 
 abbrev pub invariant-loop-place : goal.invariant-loop-place

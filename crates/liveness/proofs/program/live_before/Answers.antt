@@ -1,7 +1,7 @@
 use Rattle.std.proofs.Common.{◌≡◌, ℕ, ◌<◌, ◌↔◌, List, length, sym, ◌∙◌, ap, subst}
 use Rattle.std.specs.Prelude.{slice_index}
-use Rattle.liveness.specs.Flows.{Has, IsLive}
-use Rattle.liveness.specs.declared.flow.Flow.{Flow}
+use Rattle.liveness.specs.Prelude.{Has, Flow}
+use Rattle.liveness.specs.Flows.{IsLive}
 use Rattle.liveness.proofs.Bridge.{are_live}
 use Rattle.liveness.proofs.program.live_before.Goals as goal
 

@@ -1,6 +1,5 @@
 use Rattle.std.proofs.Common.{◌+◌, List, sym, subst}
-use Rattle.liveness.specs.Flows.{AreFlowsTo}
-use Rattle.liveness.specs.declared.flow.Flow.{Flow}
+use Rattle.liveness.specs.Prelude.{AreFlowsTo, Flow}
 use Rattle.liveness.proofs.WordFlows.{flows_more}
 use Rattle.liveness.proofs.reading.flows.Goals as goal
 

@@ -1,4 +1,4 @@
-use Rattle.liveness.specs.Flows.{AreFlowsTo}
+use Rattle.liveness.specs.Prelude.{AreFlowsTo}
 use Rattle.liveness.proofs.reading.flows.Given as goal
 
 abbrev pub invariant-loop-place : goal.invariant-loop-place

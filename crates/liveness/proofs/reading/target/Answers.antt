@@ -1,5 +1,5 @@
 use Rattle.std.proofs.Common.{ℕ, sym, subst}
-use Rattle.block_find.specs.Branches.{Names}
+use Rattle.block_find.specs.Prelude.{Names}
 use Rattle.liveness.proofs.reading.target.Goals as goal
 
 pub returns-in-Some : goal.returns-in-Some

@@ -1,6 +1,6 @@
 use Rattle.std.proofs.Common.{subst, take}
 use Rattle.access.specs.Kept.{Keeps}
-use Rattle.machines.specs.Memory.{put_block}
+use Rattle.machines.specs.Prelude.{put_block}
 use Rattle.machine_calls.proofs.calls.fill.Goals as goal
 
 pub returns-clause-bytes : goal.returns-clause-bytes

@@ -1,5 +1,5 @@
 use Rattle.std.proofs.Common.{ap}
-use Rattle.space.specs.Reports.{answer_value}
+use Rattle.machines.specs.Prelude.{answer_value}
 use Rattle.machine_calls.proofs.Giving.{read_given, write_given, other_got, other_taken}
 use Rattle.machine_calls.proofs.calls.give.Goals as goal
 

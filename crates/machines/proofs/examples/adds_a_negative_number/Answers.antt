@@ -1,4 +1,4 @@
-use Rattle.space.specs.declared.call.End.TheVariants.{Exit}
+use Rattle.machines.specs.Prelude.{Exit}
 use Rattle.machines.specs.Examples.{add_negative}
 use Rattle.machines.proofs.Small.{ends_at, added}
 use Rattle.machines.proofs.examples.adds_a_negative_number.Goals as goal

@@ -1,4 +1,4 @@
-use Rattle.space.specs.declared.call.End.TheVariants.{Exit}
+use Rattle.machines.specs.Prelude.{Exit}
 use Rattle.machines.specs.Examples.{jump, jump_back}
 use Rattle.machines.proofs.Small.{ends_at, jumped, jumped_back}
 use Rattle.machines.proofs.examples.branches.Goals as goal

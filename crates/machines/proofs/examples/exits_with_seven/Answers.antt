@@ -1,4 +1,4 @@
-use Rattle.space.specs.declared.call.End.TheVariants.{Exit}
+use Rattle.machines.specs.Prelude.{Exit}
 use Rattle.machines.specs.Examples.{exit_seven}
 use Rattle.machines.proofs.Small.{ends_at, seven}
 use Rattle.machines.proofs.examples.exits_with_seven.Goals as goal

@@ -1,4 +1,4 @@
-use Rattle.space.specs.declared.call.End.TheVariants.{Illegal}
+use Rattle.machines.specs.Prelude.{Illegal}
 use Rattle.machines.specs.Examples.{no_instruction}
 use Rattle.machines.proofs.Small.{ends_at, illegal}
 use Rattle.machines.proofs.examples.illegal_word.Goals as goal

@@ -1,4 +1,4 @@
-use Rattle.space.specs.declared.call.End.TheVariants.{Exit}
+use Rattle.machines.specs.Prelude.{Exit}
 use Rattle.machines.specs.Examples.{unknown_call}
 use Rattle.machines.proofs.Small.{ends_at, unknown}
 use Rattle.machines.proofs.examples.unknown_call_is_an_error.Goals as goal

@@ -1,8 +1,4 @@
-use Rattle.runs.specs.Laws.{StaysIn}
-use Rattle.machines.specs.Memory.{rights_of, code_of}
-use Rattle.machines.specs.Guest.{guest_machine, guest_start}
-use Rattle.machines.specs.Host.{host_machine, host_start}
-use Rattle.machines.specs.Agreement.{IsClean, narrow_machine}
+use Rattle.machines.specs.Prelude.{StaysIn, rights_of, code_of, guest_machine, guest_start, host_machine, host_start, IsClean, narrow_machine}
 use Rattle.machines.proofs.Clean.{stays_is_clean, agrees_too}
 use Rattle.machines.proofs.laws.agrees_if_narrowly.Goals as goal
 

@@ -1,11 +1,5 @@
 use Rattle.std.proofs.Common.{ℕ, List, Option}
-use Rattle.space.specs.declared.program.Program.{Program}
-use Rattle.ppc_isa.specs.declared.instr.Instr.{Instr}
-use Rattle.machines.specs.Memory.{rights_of, code_of}
-use Rattle.machines.specs.Readings.{Fetched}
-use Rattle.machines.specs.Guest.{Guest, guest_machine}
-use Rattle.machines.specs.Host.{Host, host_machine}
-use Rattle.machines.specs.Agreement.{narrow_machine}
+use Rattle.machines.specs.Prelude.{Program, Instr, rights_of, code_of, Fetched, Guest, guest_machine, Host, host_machine, narrow_machine}
 use Rattle.machines.proofs.Clean.{is_narrower}
 use Rattle.machines.proofs.laws.agrees_if_narrowly.Given as goal
 

@@ -1,4 +1,4 @@
-use Rattle.machines.specs.Memory.{rights_of, code_of}
+use Rattle.machines.specs.Prelude.{rights_of, code_of}
 use Rattle.machines.proofs.Clean.{clean_is_same}
 use Rattle.machines.proofs.laws.clean_reads_no_code.Goals as goal
 

@@ -1,4 +1,4 @@
-use Rattle.machines.specs.Guest.{guest_start}
+use Rattle.machines.specs.Prelude.{guest_start}
 use Rattle.machines.proofs.laws.guest_stays_over.Goals as goal
 
 pub returns : goal.returns

@@ -1,7 +1,5 @@
 use Rattle.std.proofs.Common.{ℕ, Option}
-use Rattle.space.specs.declared.program.Program.{Program}
-use Rattle.ppc_isa.specs.declared.instr.Instr.{Instr}
-use Rattle.machines.specs.Guest.{Guest, guest_machine}
+use Rattle.machines.specs.Prelude.{Program, Instr, Guest, guest_machine}
 use Rattle.machines.proofs.laws.guest_stays_over.Given as goal
 
 abbrev pub ghosts-stays_over : goal.ghosts-stays_over

@@ -1,7 +1,5 @@
 use Rattle.std.proofs.Common.{ℕ, List, Option}
-use Rattle.space.specs.declared.program.Program.{Program}
-use Rattle.machines.specs.Readings.{Fetched}
-use Rattle.machines.specs.Host.{Host, host_machine}
+use Rattle.machines.specs.Prelude.{Program, Fetched, Host, host_machine}
 use Rattle.machines.proofs.laws.host_keeps_calls.Given as goal
 
 abbrev pub ghosts-keeps_calls : goal.ghosts-keeps_calls

@@ -1,4 +1,4 @@
-use Rattle.machines.specs.Host.{host_start}
+use Rattle.machines.specs.Prelude.{host_start}
 use Rattle.machines.proofs.laws.host_stays_over.Goals as goal
 
 pub returns : goal.returns

@@ -1,6 +1,5 @@
 use Rattle.std.proofs.Common.{◌≡◌, ℕ, ◌+◌, ◌-◌, add-one, rules, refl, cond}
-use Rattle.word_kit.specs.Operations.{Operations}
-use Rattle.word_kit.specs.Bits.{bit_of}
+use Rattle.word_kit.specs.Prelude.{Operations, bit_of}
 use Rattle.ppc_isa.specs.ShiftRows.{leading_zeros}
 use Rattle.ppc_bits.specs.ShiftTerms.{zeros_term}
 use Rattle.ppc_bits.proofs.counts.zeros.Goals as goal

@@ -1,5 +1,6 @@
 use Rattle.std.proofs.Common.{◌≡◌}
-use Rattle.word_kit.specs.Algebra.{IsLater, GivesWord}
+use Rattle.word_kit.specs.Prelude.{GivesWord}
+use Rattle.word_kit.specs.Algebra.{IsLater}
 use Rattle.ppc_isa.specs.ShiftRows.{leading_zeros}
 use Rattle.ppc_bits.specs.ShiftTerms.{zeros_term}
 use Rattle.ppc_bits.proofs.counts.zeros.Given as goal

@@ -1,6 +1,6 @@
 use Rattle.std.proofs.Common.{◌≡◌, ◌*◌, ◌/◌, arith, ◌∙◌, ap}
 use Rattle.std.proofs.lemmas.Bool.Decides.{nat_tests}
-use Rattle.word_kit.specs.Bits.{bit_of, of_bits}
+use Rattle.word_kit.specs.Prelude.{bit_of, of_bits}
 use Rattle.ppc_isa.specs.FieldRows.{fields_mask}
 use Rattle.ppc_flow.proofs.FieldMasks.{init, sum_fits, step_on, step_off}
 use Rattle.ppc_flow.proofs.masks.fields_mask.Goals as goal

@@ -1,5 +1,5 @@
 use Rattle.std.proofs.Common.{◌≡◌, ◌*◌, ◌/◌}
-use Rattle.word_kit.specs.Bits.{bit_of, of_bits}
+use Rattle.word_kit.specs.Prelude.{bit_of, of_bits}
 use Rattle.ppc_flow.proofs.masks.fields_mask.Given as goal
 
 -- the fields so far

@@ -1,5 +1,5 @@
 use Rattle.std.proofs.Common.{ℕ, cond, ◌∙◌, ap}
-use Rattle.machines.specs.Guest.{put_cr, put_xer}
+use Rattle.machines.specs.Prelude.{put_cr, put_xer}
 use Rattle.ppc_step.proofs.results.put_results.Goals as goal
 
 pub returns : goal.returns

@@ -1,6 +1,5 @@
 use Rattle.std.proofs.Common.{◌∙◌, ap, true}
-use Rattle.word_kit.specs.Bits.{shifted_arith}
-use Rattle.word_kit.specs.Products.{quotient}
+use Rattle.word_kit.specs.Prelude.{shifted_arith, quotient}
 use Rattle.ppc_sums.proofs.Quotients.{signed_is}
 use Rattle.ppc_sums.proofs.products.signed_quotient.Goals as goal
 

@@ -1,6 +1,5 @@
 use Rattle.std.proofs.Common.{◌≡◌, ◌≤◌, count_by, take}
-use Rattle.rule_body.specs.declared.line.HostLine.{HostLine}
-use Rattle.rule_body.specs.Ops.{accesses}
+use Rattle.rule_body.specs.Prelude.{HostLine, accesses}
 use Rattle.rule_body.proofs.body.access_count.Given as goal
 
 abbrev pub invariant-loop-line : goal.invariant-loop-line

@@ -1,7 +1,6 @@
 use Rattle.std.proofs.Common.{take}
 use Rattle.std.specs.List.{AllByRecursion}
-use Rattle.rule_body.specs.Goals.{template_of}
-use Rattle.rule_body.specs.Lines.{IsHostLine}
+use Rattle.rule_body.specs.Prelude.{template_of, IsHostLine}
 use Rattle.rule_body.proofs.body.all_fit.Given as goal
 
 abbrev pub invariant-loop-line : goal.invariant-loop-line

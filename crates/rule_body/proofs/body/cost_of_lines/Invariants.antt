@@ -1,6 +1,6 @@
 use Rattle.std.proofs.Common.{◌≡◌, ◌≤◌, ◌*◌, sum_by, take}
-use Rattle.ia_codec.specs.Cost.{cost_of}
-use Rattle.rule_body.specs.declared.line.HostLine.{HostLine}
+use Rattle.ia_codec.specs.Prelude.{cost_of}
+use Rattle.rule_body.specs.Prelude.{HostLine}
 use Rattle.rule_body.proofs.body.cost_of_lines.Given as goal
 
 abbrev pub invariant-loop-line : goal.invariant-loop-line

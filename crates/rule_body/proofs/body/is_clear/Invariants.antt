@@ -1,6 +1,6 @@
 use Rattle.std.proofs.Common.{◌≡◌, take}
 use Rattle.std.specs.List.{AllByRecursion}
-use Rattle.rule_body.specs.Bodies.{no_line}
+use Rattle.rule_body.specs.Prelude.{no_line}
 use Rattle.rule_body.proofs.body.is_clear.Given as goal
 
 abbrev pub invariant-loop-line : goal.invariant-loop-line

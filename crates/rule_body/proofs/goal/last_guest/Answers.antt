@@ -1,5 +1,5 @@
 use Rattle.std.proofs.Common.{◌-◌, arith, false, ap, ◌∙◌, sym, slice_get}
-use Rattle.rule_body.specs.Goals.{guests_of}
+use Rattle.rule_body.specs.Prelude.{guests_of}
 use Rattle.rule_body.proofs.Guests.{guest-at, length-guests}
 use Rattle.rule_body.proofs.goal.last_guest.Goals as goal
 

@@ -1,7 +1,7 @@
 use Rattle.std.proofs.Common.{◌≡◌, length, sym, ap, ◌∙◌, true, false}
 use Rattle.std.proofs.lemmas.Bool.{false≢true}
 use Rattle.hex.specs.Hex.{encode_lower}
-use Rattle.ia_codec.specs.Spelling.{spelling}
+use Rattle.ia_codec.specs.Prelude.{spelling}
 use Rattle.rule_form.proofs.WordFields.{spelt, same-op}
 use Rattle.rule_form.proofs.fields.op_in.Goals as goal
 

@@ -1,6 +1,6 @@
 use Rattle.std.proofs.Common.{◌≡◌, false, map, take, drop, length}
 use Rattle.std.specs.List.{AllByRecursion}
-use Rattle.rule_form.specs.Words.{letter}
+use Rattle.rule_form.specs.Prelude.{letter}
 use Rattle.rule_form.proofs.fields.slots_of.Given as goal
 
 abbrev pub invariant-loop-i : goal.invariant-loop-i

@@ -1,5 +1,5 @@
 use Rattle.line_text.proofs.Reading.{text-good, first-once}
-use Rattle.rule_form.specs.Texts.{IsRuleText}
+use Rattle.rule_form.specs.Prelude.{IsRuleText}
 use Rattle.rule_form.proofs.RuleGrammar.{rules, is-grammar}
 use Rattle.rule_form.proofs.laws.one_line.Goals as goal
 

@@ -3,10 +3,7 @@ use Rattle.std.specs.List.{slice_split, join_with_byte}
 use Rattle.std.proofs.lemmas.List.Splits.{join_with_byte-slice_split}
 use Rattle.line_text.specs.Lines.{line_of}
 use Rattle.line_text.proofs.Lines.{split-words, snoc-same}
-use Rattle.rule_form.specs.declared.line.Line.{Line}
-use Rattle.rule_form.specs.Texts.{Item, words_of}
-use Rattle.rule_form.specs.Machine.{IsItem}
-use Rattle.rule_form.specs.Said.{item_of, IsLine}
+use Rattle.rule_form.specs.Prelude.{Line, Item, words_of, IsItem, item_of, IsLine}
 use Rattle.rule_form.proofs.ItemWords.{are-words}
 use Rattle.rule_form.proofs.line.line_said.Goals as goal
 

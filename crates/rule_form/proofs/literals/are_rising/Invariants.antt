@@ -1,5 +1,5 @@
 use Rattle.std.proofs.Common.{◌↔◌, drop}
-use Rattle.rule_body.specs.Rules.{AreRising}
+use Rattle.rule_body.specs.Prelude.{AreRising}
 use Rattle.rule_form.proofs.literals.are_rising.Given as goal
 
 abbrev pub invariant-loop-literal : goal.invariant-loop-literal

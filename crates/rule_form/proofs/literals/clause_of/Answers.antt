@@ -1,7 +1,7 @@
 use Rattle.std.proofs.Common.{◌∙◌, map, sym, subst, codes}
 use Rattle.std.proofs.lemmas.Bool.{false≢true}
-use Rattle.rule_body.specs.Rules.{AreRising}
-use Rattle.rule_form.specs.Words.{literal_word}
+use Rattle.rule_body.specs.Prelude.{AreRising}
+use Rattle.rule_form.specs.Prelude.{literal_word}
 use Rattle.rule_form.proofs.ItemWords.{fit-literals-same}
 use Rattle.rule_form.proofs.ClauseWords.{middle, rising-fit}
 use Rattle.rule_form.proofs.literals.clause_of.Goals as goal

@@ -1,7 +1,7 @@
 use Rattle.std.proofs.Common.{◌≡◌, map, take}
 use Rattle.std.specs.List.{AllByRecursion}
-use Rattle.word_kit.specs.Formulas.{IsLiteral}
-use Rattle.rule_form.specs.Words.{literal_word}
+use Rattle.word_kit.specs.Prelude.{IsLiteral}
+use Rattle.rule_form.specs.Prelude.{literal_word}
 use Rattle.rule_form.proofs.literals.literals_of.Given as goal
 
 abbrev pub invariant-loop-word : goal.invariant-loop-word

@@ -1,8 +1,7 @@
 use Rattle.std.proofs.Common.{◌≡◌, ◌<◌, ◌∷◌, length, ap, arith, length-append}
 use Rattle.std.proofs.lemmas.Grind.{common_steps}
 use Rattle.line_text.proofs.Reading.{bad-unknown, bad-place, read-on, bad-rest}
-use Rattle.rule_form.specs.Said.{item_of}
-use Rattle.rule_form.specs.Reached.{state_of}
+use Rattle.rule_form.specs.Prelude.{item_of, state_of}
 use Rattle.rule_form.proofs.RuleGrammar.{rules, is-grammar}
 use Rattle.rule_form.proofs.Ends.{end-fault}
 use Rattle.rule_form.proofs.parsing.read.Goals as goal

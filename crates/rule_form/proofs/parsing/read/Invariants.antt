@@ -1,6 +1,6 @@
 use Rattle.std.proofs.Common.{◌+◌, ◌≤◌, length}
 use Rattle.line_text.proofs.Reading.{IsRead}
-use Rattle.rule_form.specs.Reached.{state_of, IsReached}
+use Rattle.rule_form.specs.Prelude.{state_of, IsReached}
 use Rattle.rule_form.proofs.RuleGrammar.{rules}
 use Rattle.rule_form.proofs.parsing.read.Given as goal
 

@@ -1,6 +1,6 @@
 use Rattle.std.proofs.Common.{subst, sym}
 use Rattle.rule_body.specs.declared.rule.Rule.{Rule}
-use Rattle.rule_body.specs.Rules.{IsRule}
+use Rattle.rule_body.specs.Prelude.{IsRule}
 use Rattle.rule_form.proofs.Printed.{all-at}
 use Rattle.rule_form.proofs.printing.print.Goals as goal
 

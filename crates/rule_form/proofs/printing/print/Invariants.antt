@@ -1,5 +1,5 @@
 use Rattle.std.proofs.Common.{◌≡◌, map, take}
-use Rattle.rule_form.specs.Texts.{written, text_of}
+use Rattle.rule_form.specs.Prelude.{written, text_of}
 use Rattle.rule_form.proofs.printing.print.Given as goal
 
 abbrev pub invariant-loop-rule : goal.invariant-loop-rule

@@ -1,5 +1,5 @@
 use Rattle.std.proofs.Common.{◌∙◌, codes}
-use Rattle.rule_form.specs.Words.{literal_word}
+use Rattle.rule_form.specs.Prelude.{literal_word}
 use Rattle.rule_form.proofs.Printed.{more, line-between}
 use Rattle.rule_form.proofs.printing.put_clause.Goals as goal
 

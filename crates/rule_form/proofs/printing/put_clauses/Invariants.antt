@@ -1,5 +1,5 @@
 use Rattle.std.proofs.Common.{◌≡◌, ◌++◌, map, take}
-use Rattle.rule_form.specs.Texts.{Clause}
+use Rattle.rule_form.specs.Prelude.{Clause}
 use Rattle.rule_form.proofs.Printed.{lines}
 use Rattle.rule_form.proofs.printing.put_clauses.Given as goal
 

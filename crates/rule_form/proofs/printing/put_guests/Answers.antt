@@ -1,6 +1,6 @@
 use Rattle.std.proofs.Common.{sym, ap, ◌∙◌, ◌++◌, map, arith}
-use Rattle.rule_body.specs.Goals.{guests_of}
-use Rattle.rule_form.specs.Texts.{GuestLine}
+use Rattle.rule_body.specs.Prelude.{guests_of}
+use Rattle.rule_form.specs.Prelude.{GuestLine}
 use Rattle.rule_form.proofs.Printed.{lines, item-more, take-rest, taken-below}
 use Rattle.rule_form.proofs.printing.put_guests.Goals as goal
 

@@ -1,6 +1,6 @@
 use Rattle.std.proofs.Common.{◌≡◌, ◌≤◌, ◌-◌, ◌++◌, map, take}
-use Rattle.rule_body.specs.Goals.{guests_of}
-use Rattle.rule_form.specs.Texts.{GuestLine}
+use Rattle.rule_body.specs.Prelude.{guests_of}
+use Rattle.rule_form.specs.Prelude.{GuestLine}
 use Rattle.rule_form.proofs.Printed.{lines}
 use Rattle.rule_form.proofs.printing.put_guests.Given as goal
 

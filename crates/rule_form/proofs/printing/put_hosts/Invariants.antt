@@ -1,5 +1,5 @@
 use Rattle.std.proofs.Common.{◌≡◌, ◌++◌, map, take}
-use Rattle.rule_form.specs.Texts.{Host}
+use Rattle.rule_form.specs.Prelude.{Host}
 use Rattle.rule_form.proofs.Printed.{lines}
 use Rattle.rule_form.proofs.printing.put_hosts.Given as goal
 

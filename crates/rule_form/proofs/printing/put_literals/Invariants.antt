@@ -1,6 +1,6 @@
 use Rattle.std.proofs.Common.{◌≡◌, ◌++◌, ◌∷◌, take}
 use Rattle.std.specs.List.{flat_map}
-use Rattle.rule_form.specs.Words.{literal_word}
+use Rattle.rule_form.specs.Prelude.{literal_word}
 use Rattle.rule_form.proofs.printing.put_literals.Given as goal
 
 abbrev pub invariant-loop-literal : goal.invariant-loop-literal

@@ -1,5 +1,5 @@
 use Rattle.std.proofs.Common.{◌∙◌, ap, ◌++◌, map}
-use Rattle.rule_form.specs.Texts.{Clause, written}
+use Rattle.rule_form.specs.Prelude.{Clause, written}
 use Rattle.rule_form.proofs.Printed.{put-rule, lines}
 use Rattle.rule_form.proofs.printing.put_rule.Goals as goal
 

@@ -1,8 +1,7 @@
 use Rattle.std.proofs.Common.{◌≡◌, sym, subst, ◌∙◌, arith}
 use Rattle.std.proofs.lemmas.Bool.{false≢true}
 use Rattle.rule_body.specs.declared.line.HostLine.{HostLine}
-use Rattle.rule_body.specs.Goals.{template_of}
-use Rattle.rule_body.specs.Bodies.{AreHostLines, lines_of, no_line}
+use Rattle.rule_body.specs.Prelude.{template_of, AreHostLines, lines_of, no_line}
 use Rattle.rule_form.proofs.Growing.{take-set, clear-set, hosts-more, length-take}
 use Rattle.rule_form.proofs.progress.with_line.Goals as goal
 

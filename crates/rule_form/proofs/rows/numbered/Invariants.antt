@@ -1,5 +1,5 @@
 use Rattle.std.proofs.Common.{◌≡◌, ◌↔◌, drop, fold, max}
-use Rattle.rule_body.specs.Numbers.{AreNumbered}
+use Rattle.rule_body.specs.Prelude.{AreNumbered}
 use Rattle.rule_form.proofs.rows.numbered.Given as goal
 
 abbrev pub invariant-loop-number : goal.invariant-loop-number

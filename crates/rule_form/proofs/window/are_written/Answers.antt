@@ -1,7 +1,6 @@
 use Rattle.std.proofs.Common.{◌⊎◌, IsBitSet}
-use Rattle.rule_body.specs.Templates.{named}
-use Rattle.rule_body.specs.Goals.{guests_of}
-use Rattle.rule_form.specs.Partial.{WrittenAt}
+use Rattle.rule_body.specs.Prelude.{named, guests_of}
+use Rattle.rule_form.specs.Prelude.{WrittenAt}
 use Rattle.rule_form.proofs.Growing.{at-or-below}
 use Rattle.rule_form.proofs.window.are_written.Goals as goal
 

@@ -1,6 +1,6 @@
 use Rattle.std.proofs.Common.{ℕ, ◌⊎◌, subst, sym}
-use Rattle.rule_body.specs.Goals.{guests_of}
-use Rattle.rule_form.specs.Partial.{WrittenAt}
+use Rattle.rule_body.specs.Prelude.{guests_of}
+use Rattle.rule_form.specs.Prelude.{WrittenAt}
 use Rattle.rule_form.proofs.window.is_settled.Goals as goal
 
 pub returns-then-has_bit : goal.returns-then-has_bit

@@ -1,7 +1,6 @@
 use Rattle.std.proofs.Common.{sym, ◌∙◌, refl}
 use Rattle.std.proofs.lemmas.Bool.{false≢true}
-use Rattle.rule_body.specs.Templates.{named}
-use Rattle.rule_body.specs.Goals.{guests_of}
+use Rattle.rule_body.specs.Prelude.{named, guests_of}
 use Rattle.rule_form.proofs.Growing.{written-contained, contained-written}
 use Rattle.rule_form.proofs.window.with_dead.Goals as goal
 

@@ -1,9 +1,7 @@
 use Rattle.std.proofs.Common.{◌≡◌, ◌++◌, ◌∷◌, [], sym, ap, subst, ◌∙◌, arith, drop, false, ◌+◌}
 use Rattle.std.specs.List.{AllByRecursion}
 use Rattle.std.proofs.lemmas.Bool.{false≢true}
-use Rattle.rule_body.specs.Numbers.{numbers, AreNumbered}
-use Rattle.rule_body.specs.Templates.{IsWindow}
-use Rattle.rule_body.specs.Goals.{guests_of}
+use Rattle.rule_body.specs.Prelude.{numbers, AreNumbered, IsWindow, guests_of}
 use Rattle.rule_body.proofs.Guests.{length-guests}
 use Rattle.rule_form.proofs.Windows.{window-more}
 use Rattle.rule_form.proofs.Growing.{three-are-full, goes-no-further, no-word, meets, accesses-counted, counted-accesses, too-many, straight-so-far, access-fits, parameters-more, clear-set}

@@ -1,5 +1,5 @@
 use Rattle.std.proofs.Common.{◌∙◌, sym, take, arith}
-use Rattle.rule_body.specs.Goals.{guests_of}
+use Rattle.rule_body.specs.Prelude.{guests_of}
 use Rattle.rule_body.proofs.Guests.{length-guests}
 use Rattle.rule_form.proofs.Growing.{other-count, length-take}
 use Rattle.rule_form.proofs.window.with_slots.Goals as goal

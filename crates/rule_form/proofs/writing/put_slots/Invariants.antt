@@ -1,5 +1,5 @@
 use Rattle.std.proofs.Common.{◌≡◌, ◌++◌, map, take}
-use Rattle.rule_form.specs.Words.{letter}
+use Rattle.rule_form.specs.Prelude.{letter}
 use Rattle.rule_form.proofs.writing.put_slots.Given as goal
 
 abbrev pub invariant-loop-slot : goal.invariant-loop-slot

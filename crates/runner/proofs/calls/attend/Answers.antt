@@ -1,5 +1,5 @@
 use Rattle.std.proofs.Common.{sym}
-use Rattle.runner.specs.Attending.{streams_by}
+use Rattle.runner.specs.Prelude.{streams_by}
 use Rattle.runner.proofs.Answering.{listed_read, listed_write, if_err}
 use Rattle.runner.proofs.calls.attend.Goals as goal
 

@@ -1,5 +1,5 @@
 use Rattle.std.proofs.Common.{refl}
-use Rattle.space.specs.Reports.{Close}
+use Rattle.machines.specs.Prelude.{Close}
 use Rattle.runner.proofs.Answering.{other_answered, within, beyond}
 use Rattle.runner.proofs.calls.attend_close.Goals as goal
 

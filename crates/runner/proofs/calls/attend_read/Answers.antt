@@ -1,7 +1,7 @@
 use Rattle.std.proofs.Common.{arith}
 use Rattle.std.proofs.lemmas.Grind.{common_steps}
-use Rattle.space.specs.Reports.{Read}
-use Rattle.runner.specs.Attending.{with_input}
+use Rattle.machines.specs.Prelude.{Read}
+use Rattle.runner.specs.Prelude.{with_input}
 use Rattle.runner.proofs.Answering.{read_answered, taken_in_vain, other_answered, if_err}
 use Rattle.runner.proofs.calls.attend_read.Goals as goal
 

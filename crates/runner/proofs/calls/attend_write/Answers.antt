@@ -1,7 +1,7 @@
 use Rattle.std.proofs.Common.{arith}
 use Rattle.std.proofs.lemmas.Grind.{common_steps}
-use Rattle.space.specs.Reports.{Write}
-use Rattle.runner.specs.Attending.{with_output, with_errors}
+use Rattle.machines.specs.Prelude.{Write}
+use Rattle.runner.specs.Prelude.{with_output, with_errors}
 use Rattle.runner.proofs.Answering.{output_answered, errors_answered, other_answered}
 use Rattle.runner.proofs.calls.attend_write.Goals as goal
 

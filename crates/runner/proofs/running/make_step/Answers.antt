@@ -1,6 +1,6 @@
 use Rattle.std.proofs.Common.{refl}
-use Rattle.runs.specs.Machine.{Goes}
-use Rattle.runner.specs.Attending.{streams_by}
+use Rattle.machines.specs.Prelude.{Goes}
+use Rattle.runner.specs.Prelude.{streams_by}
 use Rattle.runner.proofs.Runs.{went, asked, waits, over, went_on, resumed, never_dry}
 use Rattle.runner.proofs.Answering.{if_err}
 use Rattle.runner.proofs.running.make_step.Goals as goal

@@ -1,8 +1,6 @@
 use Rattle.std.proofs.Common.{◌≡◌, ◌≤◌, false}
-use Rattle.runs.specs.Machine.{Outcome, Goes}
-use Rattle.runner.specs.Answers.{Bytes}
-use Rattle.runner.specs.Attending.{streams_by, Told}
-use Rattle.runner.specs.Stepping.{GoesOn}
+use Rattle.machines.specs.Prelude.{Outcome, Goes}
+use Rattle.runner.specs.Prelude.{Bytes, streams_by, Told, GoesOn}
 use Rattle.runner.proofs.Runs.{Reached}
 use Rattle.runner.proofs.running.run.Given as goal
 

@@ -1,6 +1,6 @@
 use Rattle.std.proofs.Common.{◌≡◌, ℕ, ◌≤◌, ◌-◌, List, length, take}
 use Rattle.std.specs.Io.KnownBytes.{Appends}
-use Rattle.runner.specs.Stepping.{StandAt}
+use Rattle.runner.specs.Prelude.{StandAt}
 use Rattle.runner.proofs.transfers.put_from.Given as goal
 
 abbrev pub invariant-loop-done : goal.invariant-loop-done

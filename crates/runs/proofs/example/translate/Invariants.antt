@@ -1,6 +1,5 @@
 use Rattle.std.proofs.Common.{take}
-use Rattle.runs.specs.Machine.{Anywhere}
-use Rattle.runs.specs.Example.{Guest, Host, guest_step, host_step, guarded_step}
+use Rattle.runs.specs.Prelude.{Anywhere, Guest, Host, guest_step, host_step, guarded_step}
 use Rattle.runs.proofs.Carried.{Meets, is_bounded, advances, is_narrower, SoFar}
 use Rattle.runs.proofs.example.translate.Given as goal
 

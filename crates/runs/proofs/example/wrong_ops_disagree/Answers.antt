@@ -2,11 +2,8 @@ use Rattle.std.proofs.Common.{◌≡◌, ◌≢◌, ℕ, zero, suc, ◌+◌, ◌
 use Rattle.space.specs.declared.call.End.TheVariants.{Running, Exit, Outside, Dry}
 use Rattle.space.specs.Reports.{Write, ended, listed}
 use Rattle.runs.specs.declared.example.Word.TheVariants as word
-use Rattle.runs.specs.declared.example.Op.{Op}
+use Rattle.runs.specs.Prelude.{Op, run, Along, StaysIn, ExampleAgrees, host_step, guarded_step, host_start}
 use Rattle.runs.specs.declared.example.Op.TheVariants as op
-use Rattle.runs.specs.Machine.{run, Along}
-use Rattle.runs.specs.Laws.{StaysIn}
-use Rattle.runs.specs.Example.{ExampleAgrees, host_step, guarded_step, host_start}
 use Rattle.runs.proofs.example.wrong_ops_disagree.Goals as goal
 
 -- the host writes 2, and the guest 1

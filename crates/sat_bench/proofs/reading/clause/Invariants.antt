@@ -1,6 +1,6 @@
 use Rattle.std.proofs.Common.{◌≤◌}
 use Rattle.std.specs.List.{All}
-use Rattle.word_kit.specs.Formulas.{IsLiteral, variable}
+use Rattle.word_kit.specs.Prelude.{IsLiteral, variable}
 use Rattle.sat_bench.proofs.reading.clause.Given as goal
 
 abbrev pub invariant-loop-word : goal.invariant-loop-word

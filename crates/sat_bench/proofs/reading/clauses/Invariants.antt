@@ -1,6 +1,6 @@
 use Rattle.std.proofs.Common.{◌≤◌}
 use Rattle.std.specs.List.{All}
-use Rattle.word_kit.specs.Formulas.{AreClauses, variable}
+use Rattle.word_kit.specs.Prelude.{AreClauses, variable}
 use Rattle.sat_bench.proofs.reading.clauses.Given as goal
 
 abbrev pub invariant-loop-line : goal.invariant-loop-line

@@ -2,7 +2,7 @@ use Rattle.std.proofs.Common.{◌≤◌, ◌++◌, ◌∷◌, [], subst, sym, ap
 use Rattle.std.specs.List.{All}
 use Rattle.std.proofs.lemmas.Int.{to_z-of_z}
 use Rattle.std.proofs.lemmas.List.Elements.{All-push}
-use Rattle.word_kit.specs.Formulas.{IsLiteral, variable}
+use Rattle.word_kit.specs.Prelude.{IsLiteral, variable}
 use Rattle.sat_tests.proofs.searches.clause.Goals as goal
 
 pub loop-number-preserved : goal.loop-number-preserved

@@ -1,6 +1,6 @@
 use Rattle.std.proofs.Common.{◌≤◌}
 use Rattle.std.specs.List.{All}
-use Rattle.word_kit.specs.Formulas.{IsLiteral, variable}
+use Rattle.word_kit.specs.Prelude.{IsLiteral, variable}
 use Rattle.sat_tests.proofs.searches.clause.Given as goal
 
 abbrev pub invariant-loop-number : goal.invariant-loop-number

@@ -1,8 +1,5 @@
-use Rattle.runs.specs.Machine.{Anywhere}
-use Rattle.machines.specs.Guest.{Guest}
-use Rattle.machines.specs.Host.{Host}
-use Rattle.simulation.specs.Context.{SimulationContext}
-use Rattle.simulation.specs.Relation.{Simulates, IsTranslation}
+use Rattle.machines.specs.Prelude.{Anywhere, Guest, Host}
+use Rattle.simulation.specs.Prelude.{SimulationContext, Simulates, IsTranslation}
 use Rattle.simulation.proofs.Meeting.{bounded, advances}
 use Rattle.simulation.proofs.laws.agrees.Given as goal
 

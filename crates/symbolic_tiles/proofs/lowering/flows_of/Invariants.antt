@@ -1,5 +1,5 @@
 use Rattle.std.proofs.Common.{◌≡◌, map, take}
-use Rattle.symbolic_tiles.specs.TileItems.{flow_of}
+use Rattle.symbolic_tiles.specs.Prelude.{flow_of}
 use Rattle.symbolic_tiles.proofs.lowering.flows_of.Given as goal
 
 abbrev pub invariant-loop-item : goal.invariant-loop-item

@@ -1,5 +1,5 @@
 use Rattle.std.proofs.Common.{◌≡◌, map, take}
-use Rattle.symbolic_tiles.specs.SymbolicOps.{op_of}
+use Rattle.symbolic_tiles.specs.Prelude.{op_of}
 use Rattle.symbolic_tiles.proofs.lowering.ops_of.Given as goal
 
 abbrev pub invariant-loop-op : goal.invariant-loop-op

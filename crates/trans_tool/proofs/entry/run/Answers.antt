@@ -1,5 +1,5 @@
 use Rattle.std.proofs.Common.{subst}
-use Rattle.trans_tool.specs.Words.{Spelled}
+use Rattle.trans_tool.specs.Prelude.{Spelled}
 use Rattle.trans_tool.proofs.entry.run.Goals as goal
 
 pub returns-in-Some-Run-clause-untouched : goal.returns-in-Some-Run-clause-untouched

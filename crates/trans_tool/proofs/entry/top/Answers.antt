@@ -1,6 +1,6 @@
 use Rattle.std.proofs.Common.{refl}
-use Rattle.runner.specs.Attending.{streams_by}
-use Rattle.trans_tool.specs.Due.{IsDueRun}
+use Rattle.runner.specs.Prelude.{streams_by}
+use Rattle.trans_tool.specs.Prelude.{IsDueRun}
 use Rattle.trans_tool.proofs.Coming.{runs-told}
 use Rattle.trans_tool.proofs.Completing.{translation_due, listing_due}
 use Rattle.trans_tool.proofs.RunDue.{IsCalm, run_comes, calm_before, calm_behind, usage_comes, usage_told, fault_told, rose_from, due_told}

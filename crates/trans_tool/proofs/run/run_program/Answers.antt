@@ -1,11 +1,8 @@
 use Rattle.std.proofs.Common.{refl, subst, []}
 use Rattle.std.specs.Prelude.{map}
-use Rattle.runs.specs.Machine.{Goes}
-use Rattle.machines.specs.Guest.{guest_machine, guest_start}
-use Rattle.machines.specs.Host.{host_machine, host_start}
-use Rattle.ia_step.specs.Steps.{Shows}
-use Rattle.ia_step.specs.Values.{choice_of}
-use Rattle.runner.specs.Attending.{streams_by}
+use Rattle.machines.specs.Prelude.{Goes, guest_machine, guest_start, host_machine, host_start}
+use Rattle.ia_step.specs.Prelude.{Shows, choice_of}
+use Rattle.runner.specs.Prelude.{streams_by}
 use Rattle.trans_tool.proofs.Ran.{host_ran, host_ran_partly}
 use Rattle.trans_tool.proofs.run.run_program.Goals as goal
 

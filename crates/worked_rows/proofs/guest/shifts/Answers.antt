@@ -1,5 +1,5 @@
 use Rattle.std.proofs.Common.{refl}
-use Rattle.ppc_isa.specs.ShiftRows.{leading_zeros}
+use Rattle.machines.specs.Prelude.{leading_zeros}
 use Rattle.worked_rows.proofs.guest.shifts.Goals as goal
 
 pub returns : goal.returns

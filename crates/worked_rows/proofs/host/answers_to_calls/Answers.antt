@@ -1,5 +1,5 @@
 use Rattle.std.proofs.Common.{refl}
-use Rattle.machines.specs.Memory.{each_byte, block, put_block}
+use Rattle.machines.specs.Prelude.{each_byte, block, put_block}
 use Rattle.worked_rows.proofs.host.answers_to_calls.Goals as goal
 
 pub returns : goal.returns

@@ -1,5 +1,5 @@
 use Rattle.std.proofs.Common.{refl}
-use Rattle.machines.specs.Memory.{load}
+use Rattle.machines.specs.Prelude.{load}
 use Rattle.worked_rows.proofs.host.wrapping_addresses.Goals as goal
 
 pub returns : goal.returns

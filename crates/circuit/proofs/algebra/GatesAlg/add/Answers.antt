@@ -1,4 +1,4 @@
-use Rattle.circuit.specs.Literals.{lit_truth, word_value}
+use Rattle.circuit.specs.Prelude.{lit_truth, word_value}
 use Rattle.circuit.proofs.Values.{word_value-lt}
 use Rattle.circuit.proofs.Meanings.{sum_parts}
 use Rattle.circuit.proofs.algebra.GatesAlg.add.Goals as goal

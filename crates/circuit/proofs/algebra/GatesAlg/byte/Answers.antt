@@ -1,5 +1,5 @@
 use Rattle.std.proofs.Common.{◌∙◌, ap}
-use Rattle.circuit.specs.Literals.{word_value}
+use Rattle.circuit.specs.Prelude.{word_value}
 use Rattle.circuit.proofs.Meanings.{byte_means, byte_owned, owned_of}
 use Rattle.circuit.proofs.algebra.GatesAlg.byte.Goals as goal
 

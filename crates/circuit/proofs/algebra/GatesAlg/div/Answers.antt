@@ -1,4 +1,4 @@
-use Rattle.circuit.specs.Literals.{word_value}
+use Rattle.circuit.specs.Prelude.{word_value}
 use Rattle.circuit.proofs.Values.{word_value-lt}
 use Rattle.circuit.proofs.FreeValues.{quotient_below, remainder_below, free_is}
 use Rattle.circuit.proofs.algebra.GatesAlg.div.Goals as goal

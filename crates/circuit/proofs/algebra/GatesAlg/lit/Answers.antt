@@ -1,5 +1,5 @@
 use Rattle.std.proofs.Common.{◌∙◌, ap, arith}
-use Rattle.circuit.specs.Literals.{word_value}
+use Rattle.circuit.specs.Prelude.{word_value}
 use Rattle.circuit.proofs.Meanings.{lit_means, lit_owned, owned_of}
 use Rattle.circuit.proofs.algebra.GatesAlg.lit.Goals as goal
 

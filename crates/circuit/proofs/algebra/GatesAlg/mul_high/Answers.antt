@@ -1,5 +1,5 @@
 use Rattle.std.proofs.Common.{◌∙◌, ap}
-use Rattle.word_kit.specs.Bits.{bit_of}
+use Rattle.word_kit.specs.Prelude.{bit_of}
 use Rattle.circuit.proofs.Values.{word_value-lt}
 use Rattle.circuit.proofs.FreeValues.{high_below, free_is}
 use Rattle.circuit.proofs.algebra.GatesAlg.mul_high.Goals as goal

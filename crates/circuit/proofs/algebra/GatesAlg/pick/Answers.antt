@@ -1,4 +1,4 @@
-use Rattle.circuit.specs.Literals.{lit_truth}
+use Rattle.circuit.specs.Prelude.{lit_truth}
 use Rattle.circuit.proofs.Meanings.{choice_means}
 use Rattle.circuit.proofs.algebra.GatesAlg.pick.Goals as goal
 

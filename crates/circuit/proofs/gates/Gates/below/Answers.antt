@@ -1,5 +1,5 @@
 use Rattle.std.proofs.Common.{◌∙◌, ap, arith}
-use Rattle.circuit.specs.WordsMade.{word_of, not_bits}
+use Rattle.circuit.specs.Prelude.{word_of, not_bits}
 use Rattle.circuit.proofs.Meanings.{less_is}
 use Rattle.circuit.proofs.gates.Gates.below.Goals as goal
 

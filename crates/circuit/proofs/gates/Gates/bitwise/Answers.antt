@@ -1,8 +1,6 @@
 use Rattle.std.proofs.Common.{rules, ◌∙◌, ap, ◌≡◌, ◌<◌, length, arith, length-set}
 use Rattle.word_kit.proofs.Later.{later-refl, later-trans}
-use Rattle.circuit.specs.Literals.{lit_truth}
-use Rattle.circuit.specs.BitGates.{gate_truth}
-use Rattle.circuit.specs.WordsMade.{at, gate_made, word_made}
+use Rattle.circuit.specs.Prelude.{lit_truth, gate_truth, at, gate_made, word_made}
 use Rattle.circuit.specs.contracts.nodes.NodePartialEq.TheImpl.{ghosts}
 use Rattle.circuit.proofs.Values.{whole, word_stands-zero, word_stands-suc, word_reach-at, word_reach-zero, reach_step, bits_step}
 use Rattle.circuit.proofs.gates.Gates.bitwise.Goals as goal

@@ -1,9 +1,5 @@
 use Rattle.std.proofs.Common.{◌≡◌, ℕ, ◌<◌, ◌≤◌, Bool, length}
-use Rattle.circuit.specs.Literals.{lit_truth, word_reach_below}
-use Rattle.circuit.specs.Nodes.{AllAgree}
-use Rattle.circuit.specs.BitGates.{gate_truth}
-use Rattle.circuit.specs.WordsMade.{at, gate_made}
-use Rattle.circuit.specs.Frame.{IsLater}
+use Rattle.circuit.specs.Prelude.{lit_truth, word_reach_below, AllAgree, gate_truth, at, gate_made, IsLater}
 use Rattle.circuit.specs.contracts.nodes.NodePartialEq.TheImpl.{ghosts}
 use Rattle.circuit.proofs.Values.{WordStands}
 use Rattle.circuit.proofs.gates.Gates.bitwise.Given as goal

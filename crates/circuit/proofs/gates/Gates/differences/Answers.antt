@@ -1,9 +1,6 @@
 use Rattle.std.proofs.Common.{◌≡◌, ◌∙◌, ap, ◌≤◌, arith, length}
 use Rattle.word_kit.proofs.Later.{later-refl, later-trans}
-use Rattle.circuit.specs.Literals.{lit_truth, lit_reach}
-use Rattle.circuit.specs.Made.{xor_made}
-use Rattle.circuit.specs.WordsMade.{word_made}
-use Rattle.circuit.specs.Miters.{pair_at, differs}
+use Rattle.circuit.specs.Prelude.{lit_truth, lit_reach, xor_made, word_made, pair_at, differs}
 use Rattle.circuit.specs.contracts.nodes.NodePartialEq.TheImpl.{ghosts}
 use Rattle.circuit.proofs.Pushed.{pushed_items, longer, list_stands-new, list_stands-push}
 use Rattle.circuit.proofs.gates.Gates.differences.Goals as goal

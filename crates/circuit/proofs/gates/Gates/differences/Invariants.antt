@@ -1,10 +1,5 @@
 use Rattle.std.proofs.Common.{◌≡◌, ℕ, ◌<◌, ◌≤◌, Bool, length}
-use Rattle.circuit.specs.Literals.{lit_truth, lit_reach}
-use Rattle.circuit.specs.Extensions.{GatesAgree}
-use Rattle.circuit.specs.Made.{xor_made}
-use Rattle.circuit.specs.WordsMade.{at}
-use Rattle.circuit.specs.Miters.{pair_at, differs}
-use Rattle.circuit.specs.Frame.{IsLater}
+use Rattle.circuit.specs.Prelude.{lit_truth, lit_reach, GatesAgree, xor_made, at, pair_at, differs, IsLater}
 use Rattle.circuit.specs.contracts.nodes.NodePartialEq.TheImpl.{ghosts}
 use Rattle.circuit.proofs.Pushed.{ListStands}
 use Rattle.circuit.proofs.gates.Gates.differences.Given as goal

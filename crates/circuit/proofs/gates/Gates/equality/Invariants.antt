@@ -1,7 +1,5 @@
 use Rattle.std.proofs.Common.{◌≡◌, ℕ, ◌≤◌, Bool, length, eqb}
-use Rattle.circuit.specs.Literals.{lit_truth, lit_reach, word_value}
-use Rattle.circuit.specs.Nodes.{AllAgree}
-use Rattle.circuit.specs.Frame.{IsLater}
+use Rattle.circuit.specs.Prelude.{lit_truth, lit_reach, word_value, AllAgree, IsLater}
 use Rattle.circuit.specs.contracts.nodes.NodePartialEq.TheImpl.{ghosts}
 use Rattle.circuit.proofs.Values.{EqualStands}
 use Rattle.circuit.proofs.gates.Gates.equality.Given as goal

@@ -1,11 +1,8 @@
 use Rattle.std.proofs.Common.{rules, ◌∙◌, ap, ◌≡◌, ◌<◌, length, arith, length-set}
-use Rattle.word_kit.specs.Bits.{bit_of}
+use Rattle.word_kit.specs.Prelude.{bit_of}
 use Rattle.word_kit.proofs.Later.{untie-refl, untie-trans}
-use Rattle.circuit.specs.Nodes.{free_value}
-use Rattle.circuit.specs.Made.{node_made}
-use Rattle.circuit.specs.WordsMade.{word_made}
+use Rattle.circuit.specs.Prelude.{free_value, node_made, word_made, Free}
 use Rattle.circuit.specs.contracts.nodes.NodePartialEq.TheImpl.{ghosts}
-use Rattle.circuit.specs.declared.nodes.Node.TheVariants.{Free}
 use Rattle.circuit.proofs.Values.{whole, word_stands-zero, word_stands-suc, word_reach-zero, reach_step, bits_step}
 use Rattle.circuit.proofs.Sharing.{word_apart, word_begun, begun_at, made_node}
 use Rattle.circuit.proofs.gates.Gates.free_word.Goals as goal

@@ -1,13 +1,7 @@
 use Rattle.std.proofs.Common.{◌≡◌, ℕ, ◌<◌, ◌≤◌, Bool, length}
-use Rattle.word_kit.specs.Bits.{bit_of}
-use Rattle.circuit.specs.Literals.{lit_truth, word_reach_below}
-use Rattle.circuit.specs.Nodes.{AllAgree, free_value}
-use Rattle.circuit.specs.Sharing.{IsApart, IsThere}
-use Rattle.circuit.specs.Made.{node_made}
-use Rattle.circuit.specs.WordsMade.{at}
-use Rattle.circuit.specs.Frame.{MayUntie}
+use Rattle.word_kit.specs.Prelude.{bit_of}
+use Rattle.circuit.specs.Prelude.{lit_truth, word_reach_below, AllAgree, free_value, IsApart, IsThere, node_made, at, MayUntie, Free}
 use Rattle.circuit.specs.contracts.nodes.NodePartialEq.TheImpl.{ghosts}
-use Rattle.circuit.specs.declared.nodes.Node.TheVariants.{Free}
 use Rattle.circuit.proofs.Values.{WordStands}
 use Rattle.circuit.proofs.gates.Gates.free_word.Given as goal
 

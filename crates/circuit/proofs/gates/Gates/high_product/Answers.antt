@@ -1,5 +1,5 @@
 use Rattle.std.proofs.Common.{◌∙◌, sym, true, false}
-use Rattle.circuit.specs.declared.nodes.FreeWord.TheVariants.{ProductHigh}
+use Rattle.circuit.specs.Prelude.{ProductHigh}
 use Rattle.circuit.proofs.Sharing.{product_apart}
 use Rattle.circuit.proofs.gates.Gates.high_product.Goals as goal
 

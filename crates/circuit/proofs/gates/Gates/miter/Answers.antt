@@ -1,9 +1,7 @@
 use Rattle.std.proofs.Common.{◌≡◌, ◌≤◌, ◌∙◌, subst, sym, ap, arith, length, slice_get, Some}
 use Rattle.std.specs.List.{All}
 use Rattle.std.specs.Option.{IfSome}
-use Rattle.circuit.specs.Literals.{signed_reach}
-use Rattle.circuit.specs.Clauses.{AreClausesFor}
-use Rattle.circuit.specs.Miters.{final_clause}
+use Rattle.circuit.specs.Prelude.{signed_reach, AreClausesFor, final_clause}
 use Rattle.circuit.specs.contracts.nodes.NodePartialEq.TheImpl.{ghosts}
 use Rattle.circuit.proofs.Differing.{satisfiable_where_differing}
 use Rattle.circuit.proofs.Formulas.{is_formula, final_owned}

@@ -1,7 +1,6 @@
 use Rattle.std.proofs.Common.{◌≡◌, ◌∙◌, ap, arith}
 use Rattle.word_kit.proofs.Later.{later-refl, later-trans}
-use Rattle.circuit.specs.Literals.{lit_truth}
-use Rattle.circuit.specs.WordsMade.{at, shift_made}
+use Rattle.circuit.specs.Prelude.{lit_truth, at, shift_made}
 use Rattle.circuit.specs.contracts.nodes.NodePartialEq.TheImpl.{ghosts}
 use Rattle.circuit.proofs.Shifts.{stage}
 use Rattle.circuit.proofs.Meanings.{shift_means, shift_none, shift_stands-zero, shift_stands-suc}

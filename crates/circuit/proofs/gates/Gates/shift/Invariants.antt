@@ -1,9 +1,6 @@
 use Rattle.std.proofs.Common.{◌≡◌, ℕ, ◌<◌, ◌≤◌, Bool, false, length}
-use Rattle.word_kit.specs.Bits.{of_bits}
-use Rattle.circuit.specs.Literals.{lit_truth, word_reach_below}
-use Rattle.circuit.specs.Nodes.{AllAgree}
-use Rattle.circuit.specs.WordsMade.{at, moved_by, shift_made}
-use Rattle.circuit.specs.Frame.{IsLater}
+use Rattle.word_kit.specs.Prelude.{of_bits}
+use Rattle.circuit.specs.Prelude.{lit_truth, word_reach_below, AllAgree, at, moved_by, shift_made, IsLater}
 use Rattle.circuit.specs.contracts.nodes.NodePartialEq.TheImpl.{ghosts}
 use Rattle.circuit.proofs.gates.Gates.shift.Given as goal
 

@@ -1,6 +1,5 @@
 use Rattle.std.proofs.Common.{◌∙◌, refl, ap, arith}
-use Rattle.circuit.specs.Literals.{lit_truth}
-use Rattle.circuit.specs.WordsMade.{at, moved}
+use Rattle.circuit.specs.Prelude.{lit_truth, at, moved}
 use Rattle.circuit.proofs.Values.{word_reach-at}
 use Rattle.circuit.proofs.Meanings.{moved_truth, stage_truth}
 use Rattle.circuit.proofs.Shifts.{power_stage}

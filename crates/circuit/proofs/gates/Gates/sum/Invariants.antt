@@ -1,8 +1,6 @@
 use Rattle.std.proofs.Common.{◌≡◌, ℕ, ◌+◌, ◌*◌, ◌^◌, ◌≤◌, Bool, length}
-use Rattle.word_kit.specs.Words.{one_if}
-use Rattle.circuit.specs.Literals.{lit_truth, lit_reach, word_value, word_reach_below}
-use Rattle.circuit.specs.Nodes.{AllAgree}
-use Rattle.circuit.specs.Frame.{IsLater}
+use Rattle.word_kit.specs.Prelude.{one_if}
+use Rattle.circuit.specs.Prelude.{lit_truth, lit_reach, word_value, word_reach_below, AllAgree, IsLater}
 use Rattle.circuit.specs.contracts.nodes.NodePartialEq.TheImpl.{ghosts}
 use Rattle.circuit.proofs.Values.{SumStands}
 use Rattle.circuit.proofs.gates.Gates.sum.Given as goal

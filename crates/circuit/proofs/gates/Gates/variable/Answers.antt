@@ -2,9 +2,7 @@ use Rattle.std.proofs.Common.{ap}
 use Rattle.circuit.proofs.Same.{node_same, says_at, gate_says_at}
 use Rattle.circuit.proofs.Kept.{later_inserted, GatesAgree-inserted, ordered_either, counted}
 use Rattle.circuit.proofs.Sharing.{shared_either}
-use Rattle.circuit.specs.Literals.{lit_truth}
-use Rattle.circuit.specs.Nodes.{AllAgree}
-use Rattle.circuit.specs.Extensions.{GatesAgree}
+use Rattle.circuit.specs.Prelude.{lit_truth, AllAgree, GatesAgree}
 use Rattle.circuit.specs.contracts.nodes.NodePartialEq.TheImpl.{ghosts}
 use Rattle.circuit.proofs.gates.Gates.variable.Goals as goal
 

@@ -1,7 +1,7 @@
 use Rattle.std.proofs.Common.{◌≤◌, ◌<◌, length, sym, subst}
-use Rattle.block_find.specs.Laws.{all_blocks, block_at}
+use Rattle.block_find.specs.Prelude.{all_blocks, block_at}
 use Rattle.block_find.specs.declared.block.Block.{Block}
-use Rattle.code_layout.specs.Places.{place_of}
+use Rattle.code_layout.specs.Prelude.{place_of}
 use Rattle.code_layout.proofs.Blocks.{from_first, place_among}
 use Rattle.code_layout.proofs.source.Source.place.Goals as goal
 

@@ -1,8 +1,8 @@
 use Rattle.std.proofs.Common.{◌≡◌, All, List, Option, length, take, drop, sym, ap, ◌∙◌, subst, arith}
-use Rattle.ppc_isa.specs.declared.instr.Instr.{Instr}
-use Rattle.block_find.specs.Laws.{all_blocks, block_at}
+use Rattle.machines.specs.Prelude.{Instr}
+use Rattle.block_find.specs.Prelude.{all_blocks, block_at}
 use Rattle.block_find.specs.declared.block.Block.{Block}
-use Rattle.code_layout.specs.Decoded.{IsLegalDecoded}
+use Rattle.code_layout.specs.Prelude.{IsLegalDecoded}
 use Rattle.code_layout.proofs.Blocks.{part_within, part_count, part_legal}
 use Rattle.code_layout.proofs.source.Source.words_of.Goals as goal
 

@@ -1,6 +1,6 @@
 use Rattle.std.proofs.Common.{drop, map, ap, sym, ◌∙◌}
 use Rattle.std.proofs.lemmas.List.{drop-map, drop-drop}
-use Rattle.ia_step.specs.Values.{choice_of}
+use Rattle.ia_step.specs.Prelude.{choice_of}
 use Rattle.ia_step.proofs.choices.Choices.advance.Goals as goal
 
 pub returns-then-self-len : goal.returns-then-self-len

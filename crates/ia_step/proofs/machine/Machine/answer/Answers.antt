@@ -1,7 +1,6 @@
 use Rattle.std.proofs.Common.{refl}
 use Rattle.machine_calls.proofs.Phases.{is_asking}
-use Rattle.ia_step.specs.Shown.{IsState}
-use Rattle.ia_step.specs.Calls.{IsAsking}
+use Rattle.ia_step.specs.Prelude.{IsState, IsAsking}
 use Rattle.ia_step.proofs.machine.Machine.answer.Goals as goal
 
 pub returns-clause-shows : goal.returns-clause-shows

@@ -1,6 +1,6 @@
 use Rattle.std.proofs.Common.{◌≡◌, drop, map, refl, sym, ◌∙◌, ap}
-use Rattle.machines.specs.Host.{choice_at, chosen_word, chosen_flags}
-use Rattle.ia_step.specs.Values.{choice_of}
+use Rattle.machines.specs.Prelude.{choice_at, chosen_word, chosen_flags}
+use Rattle.ia_step.specs.Prelude.{choice_of}
 use Rattle.ia_step.proofs.Starting.{behind, first_behind, word_behind, registers_are}
 use Rattle.ia_step.proofs.machine.Machine.at_start.Goals as goal
 

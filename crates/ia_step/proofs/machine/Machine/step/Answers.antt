@@ -1,7 +1,7 @@
 use Rattle.std.proofs.Common.{subst, sym}
-use Rattle.machines.specs.Host.{host_machine}
+use Rattle.machines.specs.Prelude.{host_machine}
 use Rattle.machine_calls.specs.Phases.{stepped}
-use Rattle.ia_step.specs.Steps.{Shows}
+use Rattle.ia_step.specs.Prelude.{Shows}
 use Rattle.ia_step.proofs.Standing.{steps}
 use Rattle.ia_step.proofs.machine.Machine.step.Goals as goal
 

@@ -1,9 +1,6 @@
 use Rattle.std.proofs.Common.{subst, ap, sym, ◌∙◌, ◌≡◌}
-use Rattle.machines.specs.Host.{host_values}
-use Rattle.ia_codec.specs.Rows.{host_row}
-use Rattle.ia_codec.specs.declared.op.Op.TheVariants.{Cdq}
-use Rattle.ia_step.specs.Values.{choice_of}
-use Rattle.ia_step.specs.Shown.{IsCore, with_reg}
+use Rattle.machines.specs.Prelude.{host_values, host_row, Cdq}
+use Rattle.ia_step.specs.Prelude.{choice_of, IsCore, with_reg}
 use Rattle.ia_step.proofs.parts.Parts.copy_sign.Goals as goal
 
 pub returns : goal.returns

@@ -1,8 +1,6 @@
 use Rattle.std.proofs.Common.{subst, sym, true}
-use Rattle.machines.specs.Memory.{rights_of}
-use Rattle.machines.specs.Host.{does}
-use Rattle.ia_step.specs.Values.{choice_of}
-use Rattle.ia_step.specs.Shown.{Led}
+use Rattle.machines.specs.Prelude.{rights_of, does}
+use Rattle.ia_step.specs.Prelude.{choice_of, Led}
 use Rattle.ia_step.proofs.parts.Parts.does.Goals as goal
 
 pub returns-in-Cdq-clause-leads : goal.returns-in-Cdq-clause-leads

@@ -1,5 +1,5 @@
 use Rattle.std.proofs.Common.{ap, ◌∙◌, false}
-use Rattle.ia_codec.specs.Rows.{host_row}
+use Rattle.machines.specs.Prelude.{host_row}
 use Rattle.ia_step.proofs.Cores.{values_shown}
 use Rattle.ia_step.proofs.parts.Parts.effect.Goals as goal
 

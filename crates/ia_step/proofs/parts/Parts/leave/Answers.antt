@@ -1,7 +1,6 @@
 use Rattle.std.proofs.Common.{true, subst, sym}
-use Rattle.machines.specs.Memory.{rights_of}
-use Rattle.machines.specs.Host.{leaves, place_of}
-use Rattle.ia_step.specs.Shown.{Led}
+use Rattle.machines.specs.Prelude.{rights_of, leaves, place_of}
+use Rattle.ia_step.specs.Prelude.{Led}
 use Rattle.ia_step.proofs.Cores.{left, not_left, flags_left}
 use Rattle.ia_step.proofs.parts.Parts.leave.Goals as goal
 use Rattle.ia_step.proofs.parts.Parts.leave.Goals.{then-has_result+in_ok-write, else-has_result}

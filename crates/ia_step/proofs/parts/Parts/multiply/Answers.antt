@@ -1,9 +1,6 @@
 use Rattle.std.proofs.Common.{ap, sym, ◌∙◌, subst, true}
-use Rattle.ia_codec.specs.Rows.{host_row}
-use Rattle.machines.specs.Memory.{rights_of}
-use Rattle.machines.specs.Host.{host_values, multiplies}
-use Rattle.ia_step.specs.Values.{choice_of}
-use Rattle.ia_step.specs.Shown.{Led}
+use Rattle.machines.specs.Prelude.{host_row, rights_of, host_values, multiplies}
+use Rattle.ia_step.specs.Prelude.{choice_of, Led}
 use Rattle.ia_step.proofs.parts.Parts.multiply.Goals as goal
 
 pub returns-clause-leads : goal.returns-clause-leads

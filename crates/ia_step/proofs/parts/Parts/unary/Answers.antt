@@ -1,10 +1,7 @@
 use Rattle.std.proofs.Common.{subst, sym, ◌∙◌, ap}
 use Rattle.std.specs.Option.{is_some}
-use Rattle.ia_codec.specs.declared.op.Op.TheVariants.{Unary}
-use Rattle.machines.specs.Memory.{rights_of}
-use Rattle.machines.specs.Host.{place_of, sets}
-use Rattle.ia_step.specs.Values.{choice_of}
-use Rattle.ia_step.specs.Shown.{Led}
+use Rattle.machines.specs.Prelude.{Unary, rights_of, place_of, sets}
+use Rattle.ia_step.specs.Prelude.{choice_of, Led}
 use Rattle.ia_step.proofs.Going.{unary_set}
 use Rattle.ia_step.proofs.parts.Parts.unary.Goals as goal
 

@@ -1,6 +1,6 @@
 use Rattle.std.proofs.Common.{subst, sym}
-use Rattle.machines.specs.Memory.{rights_of}
-use Rattle.ia_step.specs.Steps.{Leads}
+use Rattle.machines.specs.Prelude.{rights_of}
+use Rattle.ia_step.specs.Prelude.{Leads}
 use Rattle.ia_step.proofs.Going.{IsOther, other_acts}
 use Rattle.ia_step.proofs.state.State.act.Goals as goal
 

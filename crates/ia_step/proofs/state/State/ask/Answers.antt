@@ -1,7 +1,6 @@
 use Rattle.std.proofs.Common.{subst, sym}
-use Rattle.space.specs.declared.call.Event.TheVariants.{Asked}
-use Rattle.ia_step.specs.Calls.{asks_for}
-use Rattle.ia_step.specs.Steps.{Leads}
+use Rattle.machines.specs.Prelude.{Asked}
+use Rattle.ia_step.specs.Prelude.{asks_for, Leads}
 use Rattle.ia_step.proofs.Asking.{asked, not_asked}
 use Rattle.ia_step.proofs.state.State.ask.Goals as goal
 

@@ -1,7 +1,6 @@
 use Rattle.std.proofs.Common.{true, false, subst, sym, ap, ◌∙◌}
-use Rattle.machines.specs.Memory.{rights_of}
-use Rattle.machines.specs.Host.{does, choice_at}
-use Rattle.ia_step.specs.Shown.{Led}
+use Rattle.machines.specs.Prelude.{rights_of, does, choice_at}
+use Rattle.ia_step.specs.Prelude.{Led}
 use Rattle.ia_step.proofs.Going.{went, stopped}
 use Rattle.ia_step.proofs.state.State.plain.Goals as goal
 

@@ -1,6 +1,6 @@
 use Rattle.std.proofs.Common.{subst, sym}
-use Rattle.machines.specs.Memory.{rights_of}
-use Rattle.ia_step.specs.Steps.{Leads}
+use Rattle.machines.specs.Prelude.{rights_of}
+use Rattle.ia_step.specs.Prelude.{Leads}
 use Rattle.ia_step.proofs.Going.{unary_plain}
 use Rattle.ia_step.proofs.state.State.unary.Goals as goal
 

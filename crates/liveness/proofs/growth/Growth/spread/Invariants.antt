@@ -1,5 +1,5 @@
 use Rattle.std.proofs.Common.{◌≤◌}
-use Rattle.liveness.specs.Growth.{IsUnder, work}
+use Rattle.liveness.specs.Prelude.{IsUnder, work}
 use Rattle.liveness.proofs.Spreading.{IsSpread}
 use Rattle.liveness.proofs.growth.Growth.spread.Given as goal
 

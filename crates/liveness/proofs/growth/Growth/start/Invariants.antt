@@ -1,4 +1,4 @@
-use Rattle.liveness.specs.Growth.{IsStart}
+use Rattle.liveness.specs.Prelude.{IsStart}
 use Rattle.liveness.proofs.growth.Growth.start.Given as goal
 
 abbrev pub invariant-loop-place : goal.invariant-loop-place

@@ -1,4 +1,4 @@
-use Rattle.liveness.specs.Namers.{AreNamers}
+use Rattle.liveness.specs.Prelude.{AreNamers}
 use Rattle.liveness.proofs.namers.Namers.of.Given as goal
 
 abbrev pub invariant-loop-place : goal.invariant-loop-place

@@ -1,6 +1,5 @@
 use Rattle.std.proofs.Common.{replicate, refl, ◌∙◌, ap}
-use Rattle.machines.specs.Memory.{update}
-use Rattle.machines.specs.Guest.{stack_start}
+use Rattle.machines.specs.Prelude.{update, stack_start}
 use Rattle.ppc_registers.proofs.Holding.{zeros_shown}
 use Rattle.ppc_registers.proofs.registers.Registers.at_start.Goals as goal
 

@@ -1,5 +1,5 @@
 use Rattle.std.proofs.Common.{◌+◌, ◌*◌, ◌/◌, arith}
-use Rattle.machines.specs.Guest.{with_so}
+use Rattle.machines.specs.Prelude.{with_so}
 use Rattle.ppc_registers.specs.Held.{locs_of}
 use Rattle.ppc_registers.proofs.Holding.{first_is, first_changes}
 use Rattle.ppc_registers.proofs.registers.Registers.set_so.Goals as goal

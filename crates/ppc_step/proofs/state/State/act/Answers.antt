@@ -1,10 +1,6 @@
 use Rattle.std.proofs.Common.{◌≡◌, ◌-◌, ◌*◌, refl, sym, ◌∙◌, ap, subst}
-use Rattle.ppc_isa.specs.declared.instr.Instr.{Instr}
-use Rattle.ppc_isa.specs.declared.instr.Instr.TheVariants.{Multiple}
-use Rattle.ppc_isa.specs.declared.instr.MultipleOp.TheVariants.{Lmw, Stmw}
-use Rattle.machines.specs.Guest.{effect_of, at_next, results}
-use Rattle.ppc_step.specs.declared.forms.Form.{Form}
-use Rattle.ppc_step.specs.Shown.{IsState}
+use Rattle.machines.specs.Prelude.{Instr, Multiple, Lmw, Stmw, effect_of, at_next, results}
+use Rattle.ppc_step.specs.Prelude.{Form, IsState}
 use Rattle.ppc_step.proofs.States.{acted, went}
 use Rattle.ppc_step.proofs.state.State.act.Goals as goal
 

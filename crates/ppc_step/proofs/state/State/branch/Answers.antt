@@ -1,6 +1,6 @@
 use Rattle.std.proofs.Common.{subst}
-use Rattle.machines.specs.Guest.{branches, linked}
-use Rattle.ppc_step.specs.Shown.{IsState}
+use Rattle.machines.specs.Prelude.{branches, linked}
+use Rattle.ppc_step.specs.Prelude.{IsState}
 use Rattle.ppc_step.proofs.States.{target_is}
 use Rattle.ppc_step.proofs.state.State.branch.Goals as goal
 

@@ -1,7 +1,6 @@
 use Rattle.std.proofs.Common.{subst}
-use Rattle.machines.specs.Memory.{update}
-use Rattle.machines.specs.Guest.{branches, linked}
-use Rattle.ppc_step.specs.Shown.{IsState}
+use Rattle.machines.specs.Prelude.{update, branches, linked}
+use Rattle.ppc_step.specs.Prelude.{IsState}
 use Rattle.ppc_step.proofs.States.{target_is, gpr_put, with_registers}
 use Rattle.ppc_step.proofs.state.State.branch_conditional.Goals as goal
 

@@ -1,7 +1,6 @@
 use Rattle.std.proofs.Common.{◌∙◌, ap, subst}
-use Rattle.machines.specs.Memory.{update}
-use Rattle.machines.specs.Guest.{branches, linked, register_target}
-use Rattle.ppc_step.specs.Shown.{IsState}
+use Rattle.machines.specs.Prelude.{update, branches, linked, register_target}
+use Rattle.ppc_step.specs.Prelude.{IsState}
 use Rattle.ppc_step.proofs.States.{gpr_put, with_registers}
 use Rattle.ppc_step.proofs.state.State.branch_register.Goals as goal
 

@@ -1,6 +1,5 @@
-use Rattle.machines.specs.Guest.{guest_values}
+use Rattle.machines.specs.Prelude.{guest_values, guest_row}
 use Rattle.std.proofs.Common.{◌∙◌, ap}
-use Rattle.ppc_isa.specs.Rows.{guest_row}
 use Rattle.ppc_step.proofs.Rows.{effect_is}
 use Rattle.ppc_step.proofs.state.State.effect.Goals as goal
 

@@ -1,6 +1,5 @@
 use Rattle.std.proofs.Common.{ℕ, ◌∙◌, ap}
-use Rattle.machines.specs.Memory.{update}
-use Rattle.machines.specs.Guest.{with_so}
+use Rattle.machines.specs.Prelude.{update, with_so}
 use Rattle.ppc_step.proofs.States.{gpr_put, with_registers}
 use Rattle.ppc_step.proofs.state.State.fail.Goals as goal
 

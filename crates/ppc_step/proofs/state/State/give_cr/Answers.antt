@@ -1,5 +1,5 @@
 use Rattle.std.proofs.Common.{◌∙◌, ap}
-use Rattle.machines.specs.Guest.{put_cr}
+use Rattle.machines.specs.Prelude.{put_cr}
 use Rattle.ppc_step.proofs.States.{with_registers}
 use Rattle.ppc_step.proofs.state.State.give_cr.Goals as goal
 

@@ -1,6 +1,6 @@
 use Rattle.std.proofs.Common.{◌∙◌, ap}
-use Rattle.machines.specs.Guest.{put_special}
-use Rattle.ppc_step.specs.Shown.{told}
+use Rattle.machines.specs.Prelude.{put_special}
+use Rattle.ppc_step.specs.Prelude.{told}
 use Rattle.ppc_step.proofs.States.{with_registers}
 use Rattle.ppc_step.proofs.state.State.give_special.Goals as goal
 

@@ -1,5 +1,5 @@
 use Rattle.std.proofs.Common.{ℕ, cond, ◌∙◌, ap}
-use Rattle.machines.specs.Memory.{update}
+use Rattle.machines.specs.Prelude.{update}
 use Rattle.ppc_step.proofs.States.{jumped}
 use Rattle.ppc_step.proofs.state.State.jump.Goals as goal
 

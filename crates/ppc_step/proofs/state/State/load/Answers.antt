@@ -1,8 +1,6 @@
 use Rattle.std.proofs.Common.{subst}
-use Rattle.ppc_isa.specs.Effect.{Effect}
-use Rattle.machines.specs.Memory.{update}
-use Rattle.machines.specs.Guest.{effect_of, at_next}
-use Rattle.ppc_step.specs.Shown.{IsState}
+use Rattle.machines.specs.Prelude.{Effect, update, effect_of, at_next}
+use Rattle.ppc_step.specs.Prelude.{IsState}
 use Rattle.ppc_step.proofs.States.{gpr_put, with_registers, load_goes}
 use Rattle.ppc_step.proofs.state.State.load.Goals as goal
 

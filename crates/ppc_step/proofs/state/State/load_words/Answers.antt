@@ -1,5 +1,5 @@
 use Rattle.std.proofs.Common.{arith}
-use Rattle.machines.specs.Memory.{rights_of}
+use Rattle.machines.specs.Prelude.{rights_of}
 use Rattle.ppc_step.proofs.Many.{none_below, next_below, all_below, part_inside}
 use Rattle.ppc_step.proofs.state.State.load_words.Goals as goal
 

@@ -1,9 +1,7 @@
-use Rattle.machines.specs.Guest.{guest_values}
+use Rattle.machines.specs.Prelude.{guest_values, Effect, guest_row}
 use Rattle.std.proofs.Common.{◌≤◌, ◌∙◌, ap, subst, sym}
-use Rattle.ppc_isa.specs.Effect.{Effect}
-use Rattle.ppc_isa.specs.Rows.{guest_row}
 use Rattle.ppc_registers.specs.Held.{numbers}
-use Rattle.ppc_step.specs.Shown.{told}
+use Rattle.ppc_step.specs.Prelude.{told}
 use Rattle.ppc_step.proofs.Rows.{short, none_loaded, some_loaded}
 use Rattle.ppc_step.proofs.state.State.loaded.Goals as goal
 

@@ -1,4 +1,4 @@
-use Rattle.space.specs.Reports.{answer_value}
+use Rattle.machines.specs.Prelude.{answer_value}
 use Rattle.ppc_step.proofs.Asking.{given_result, given_error}
 use Rattle.ppc_step.proofs.state.State.resume.Goals as goal
 

@@ -1,6 +1,5 @@
 use Rattle.std.proofs.Common.{refl}
-use Rattle.space.specs.declared.call.Event.TheVariants.{Ended}
-use Rattle.space.specs.declared.call.End.TheVariants.{Illegal}
+use Rattle.machines.specs.Prelude.{Ended, Illegal}
 use Rattle.ppc_step.proofs.Stepping.{executed, illegal}
 use Rattle.ppc_step.proofs.state.State.step.Goals as goal
 

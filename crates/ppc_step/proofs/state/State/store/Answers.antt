@@ -1,8 +1,7 @@
 use Rattle.std.proofs.Common.{◌≤◌, ◌∙◌, sym, subst}
 use Rattle.std.proofs.lemmas.Bool.{OnTrue_at}
-use Rattle.ppc_isa.specs.Effect.{Effect}
-use Rattle.machines.specs.Memory.{store_big}
-use Rattle.ppc_step.specs.Shown.{told}
+use Rattle.machines.specs.Prelude.{Effect, store_big}
+use Rattle.ppc_step.specs.Prelude.{told}
 use Rattle.ppc_step.proofs.Rows.{store_width, no_load}
 use Rattle.ppc_step.proofs.States.{with_memory, store_goes, store_stops}
 use Rattle.ppc_step.proofs.state.State.store.Goals as goal

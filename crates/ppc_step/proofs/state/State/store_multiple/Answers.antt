@@ -1,8 +1,6 @@
 use Rattle.std.proofs.Common.{◌≡◌, ◌∙◌, sym, ap, subst, true, ◌-◌, ◌*◌}
-use Rattle.machines.specs.Memory.{each_byte, rights_of}
-use Rattle.machines.specs.Guest.{store_registers}
-use Rattle.ppc_isa.specs.Effect.{Effect}
-use Rattle.ppc_step.specs.Shown.{told}
+use Rattle.machines.specs.Prelude.{each_byte, rights_of, store_registers, Effect}
+use Rattle.ppc_step.specs.Prelude.{told}
 use Rattle.ppc_step.proofs.States.{store_goes, store_stops}
 use Rattle.ppc_step.proofs.state.State.store_multiple.Goals as goal
 

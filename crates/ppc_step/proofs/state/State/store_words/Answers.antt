@@ -1,7 +1,6 @@
 use Rattle.std.proofs.Common.{◌≡◌, ◌-◌, ℕ, arith, subst}
-use Rattle.machines.specs.Memory.{rights_of}
-use Rattle.machines.specs.Guest.{store_registers}
-use Rattle.ppc_step.specs.Shown.{IsState}
+use Rattle.machines.specs.Prelude.{rights_of, store_registers}
+use Rattle.ppc_step.specs.Prelude.{IsState}
 use Rattle.ppc_step.proofs.Many.{next_words, part_inside, none_left}
 use Rattle.ppc_step.proofs.state.State.store_words.Goals as goal
 

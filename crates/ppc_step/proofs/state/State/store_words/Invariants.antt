@@ -1,8 +1,6 @@
 use Rattle.std.proofs.Common.{◌≡◌, ◌+◌, ◌-◌, ◌*◌, ◌%◌, ◌^◌, true}
-use Rattle.space.specs.declared.program.Program.{Program}
-use Rattle.machines.specs.Memory.{each_byte, rights_of}
-use Rattle.machines.specs.Guest.{Guest, store_registers}
-use Rattle.ppc_step.specs.Shown.{IsState}
+use Rattle.machines.specs.Prelude.{Program, each_byte, rights_of, Guest, store_registers}
+use Rattle.ppc_step.specs.Prelude.{IsState}
 use Rattle.ppc_step.proofs.state.State.store_words.Given as goal
 
 abbrev pub invariant-loop-x : goal.invariant-loop-x

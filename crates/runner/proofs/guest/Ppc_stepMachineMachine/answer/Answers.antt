@@ -1,4 +1,4 @@
-use Rattle.space.specs.Reports.{answer_value}
+use Rattle.machines.specs.Prelude.{answer_value}
 use Rattle.runner.proofs.GuestSteps.{answer_shows}
 use Rattle.runner.proofs.guest.Ppc_stepMachineMachine.answer.Goals as goal
 

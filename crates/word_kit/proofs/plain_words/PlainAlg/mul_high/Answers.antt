@@ -1,5 +1,5 @@
 use Rattle.std.proofs.Common.{◌∙◌, sym, ap, arith}
-use Rattle.word_kit.specs.Products.{product_high}
+use Rattle.word_kit.specs.Prelude.{product_high}
 use Rattle.word_kit.proofs.SignedParts.{product_is}
 use Rattle.word_kit.proofs.plain_words.PlainAlg.mul_high.Goals as goal
 
