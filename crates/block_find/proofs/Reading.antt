@@ -14,9 +14,6 @@ flow_of_some word i b is only e = (λ t. legal i is (subst IsTrue e t), back) wh
   back (legal j spelled flow) = subst IsTrue (sym (e ∙ ap is_flow (same_of word i j only spelled))) flow
   back (illegal none) = absurd (none i is)
 
-pub flow_of_none : (word : ℕ) → ((j : Instr) → IsWordOf word j → None ≡ Some j) → IsFlowWord word
-flow_of_none word only = illegal (λ j is. (let e : None ≡ Some j = only j is in cc))
-
 -- the address that a word's instruction names tells which word it names
 module _ (first : ℕ) (words : List ℕ) (p : ℕ) where
   abbrev Tells : Option ℕ → Type 0

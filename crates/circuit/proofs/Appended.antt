@@ -55,6 +55,3 @@ pub chosen_all : (chosen : ℕ → Bool) (ns : List Node) (k : ℕ) (whole out :
 chosen_all chosen ns k whole out l h =
     let i : clauses_left chosen ns k ≡ [] = ap (λ l. chosen_clauses chosen (k + 1) l) (drop_all k ns l) ∙ chosen_none chosen (k + 1) in
     sym (append-nil out) ∙ (rw (← i) h)
-
-pub chosen_start : (chosen : ℕ → Bool) (ns : List Node) (out : List (List ℤ)) → out ≡ [] → out ++ clauses_left chosen ns 0 ≡ chosen_clauses chosen 1 ns
-chosen_start chosen ns out e = rw e refl

@@ -79,7 +79,3 @@ remainder_below false high low by hb = unless (divide_faults high low by false) 
 -- a word of free bits is its value
 pub free_is : (r : List Lit) (v : ℕ → Bool) (value : ℕ) → value < 2 ^ 32 → ((k : ℕ) → k < 32 → lit_truth (at r k) v ≡ bit_of value k) → word_value 32 r v ≡ value
 free_is r v value h e = word_is r v (λ k. bit_of value k) e ∙ number_below value h
-
-pub fault_bit : (b : Bool) → bit_of (one_if b) 0 ≡ b
-fault_bit true = refl
-fault_bit false = refl

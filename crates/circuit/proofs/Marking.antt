@@ -85,17 +85,6 @@ marks_start ns clause n marks e f a =
       closed = λ j m k l s t h. let b = slice_get_within ns j m s in absurd (omega (arith, l, b));
     }
 
-pub marks_pass : (ns : List Node) (clause : List ℤ) (i : ℕ) (marks : List Bool) → is_marked marks (i + 1) ≡ false → MarksStand ns clause (i + 1) marks → MarksStand ns clause i marks
-marks_pass ns clause i marks f m = record {
-  wide = m.wide;
-  sound = m.sound;
-  own = m.own;
-  closed = λ j n k l s t h. elim (cases_eq j i) [
-    | inl e ↦ let u = subst (λ q. is_marked marks (q + 1) ≡ true) e t in absurd cc
-    | inr ne ↦ m.closed j n k (omega (arith, l, ne)) s t h
-  ];
-}
-
 -- what a node reads is earlier than its variable
 reads_earlier : (ns : List Node) → IsOrdered ns → (i : ℕ) (n : Node) (k : ℕ) → slice_get ns i ≡ Some n → Names (inputs_of n) k → k ≤ i
 reads_earlier ns o i n k s a = let r = o.reads i n s in let p = input_reach n a.1 (a.0, a.2, a.3) in let q = variable_reach a.1 in let e : variable a.1 ≡ k = a.4 in omega (arith, r, p, q, e)

@@ -3,6 +3,7 @@ use Rattle.std.proofs.Common.{◌≡◌, ◌≤◌, ◌+◌, ◌*◌, ℕ, zero,
 use Rattle.std.proofs.Math.ListN as list
 use Rattle.std.proofs.lemmas.List.{length-map}
 use Rattle.std.proofs.lemmas.List.Elements.{All-head, All-tail}
+use Rattle.ia_codec.specs.Reading.{condition_of_number}
 use Rattle.machines.specs.Prelude.{IsLegal, Instr, Op, Ud2, Condition, spelling, behind as next_address}
 use Rattle.symbolic_tiles.specs.declared.flow_op.FlowOp.{FlowOp}
 use Rattle.symbolic_tiles.specs.declared.flow_op.FlowOp.TheVariants.{Plain, Jump, Mark, Edge, Leap}
@@ -12,7 +13,7 @@ use Rattle.code_layout.proofs.StraightTiles.{tiles_are_placeable, tiles_are_shor
 use Rattle.base_flow.specs.Prelude.{tile as flow_tile}
 use Rattle.base_flow.proofs.Room.{flow_tiles_are_short}
 use Rattle.base_flow.proofs.Tiles.{flow_tiles_are_laid, flow_tiles_are_marked}
-use Rattle.code_layout.specs.Prelude.{IsLegalDecoded, no_registers, no_moves, word_ops, IsPlaceable, IsLaid, block_items, items_length, item_length, jump_on, condition_of}
+use Rattle.code_layout.specs.Prelude.{IsLegalDecoded, no_registers, no_moves, word_ops, IsPlaceable, IsLaid, block_items, items_length, item_length, jump_on}
 use Rattle.code_layout.proofs.BuiltWords.{is_map, straight_word, has_tile}
 
 length_append : (xs ys : List FlowOp) → items_length no_moves (xs ++ ys) ≡ items_length no_moves xs + items_length no_moves ys
@@ -31,7 +32,7 @@ jump_length None = omega arith
 
 item_short : (item : FlowOp) → item_length no_moves item ≤ flow_room item
 item_short (Plain op) = omega arith
-item_short (Jump code mark) = jump_length (condition_of code)
+item_short (Jump code mark) = jump_length (condition_of_number code)
 item_short (Mark mark) = omega arith
 item_short (Edge target) = omega arith
 item_short Leap = omega arith

@@ -4,10 +4,11 @@ use Rattle.std.proofs.lemmas.Bool.{eqb-true}
 use Rattle.std.proofs.Common.{◌≡◌, ◌≢◌, ◌≤◌, ◌<◌, ◌+◌, ◌-◌, ℕ, suc, take, Bool, true, false, List, [], ◌∷◌, ◌++◌, length, get_or, drop, Option, None, Some, refl, ap, sym, ◌∙◌, append_assoc, drop-cons, arith}
 use Rattle.std.proofs.lemmas.Grind.{common_steps}
 use Rattle.std.proofs.lemmas.List.{append-nil, get_or_past, length-drop, take_all}
+use Rattle.ia_codec.specs.Reading.{condition_of_number}
 use Rattle.machines.specs.Prelude.{Operand, Reg, Abs, Base, Pair, Condition, Op, AluTo, AluFrom, AluImm, TestReg, TestImm, Unary, Imul, MovTo, MovFrom, MovToImm, MovHalfTo, MovByteTo, MovByteFrom, Shift, ShiftByCl, Lea, Extend, Set, Cmov, Bsr, JmpTo, modrm, dword, spelling, alu_number, shift_number, unary_number}
 use Rattle.symbolic_tiles.specs.declared.flow_op.FlowOp.{FlowOp}
 use Rattle.block_find.specs.Prelude.{address_of}
-use Rattle.code_layout.specs.Prelude.{Places, place_of, entry_of, jump_on, jump, condition_of, item_length, item_bytes, items_bytes}
+use Rattle.code_layout.specs.Prelude.{Places, place_of, entry_of, jump_on, jump, item_length, item_bytes, items_bytes}
 use Rattle.reg_map.specs.Prelude.{operand_at, op_at}
 
 moved : (n area : ℕ) (m : Operand) → length (modrm n (operand_at area m)) ≡ length (modrm n m)
@@ -46,14 +47,6 @@ op_at-length area (Cmov condition to from) = omega (arith, moved to area from)
 op_at-length area (Bsr to from) = omega (arith, moved to area from)
 op_at-length area (JmpTo to) = omega (arith, moved 4 area to)
 op_at-length area _ = refl
-
-jump_on-length : (found : Option Condition) (rel : ℕ) → length (spelling (jump_on found rel)) ≡ length (spelling (jump_on found 0))
-jump_on-length (Some condition) rel = refl
-jump_on-length None rel = refl
-
--- a jump has as many bytes, however far it leads
-pub jump-length : (condition rel : ℕ) → length (spelling (jump condition rel)) ≡ length (spelling (jump condition 0))
-jump-length condition rel = jump_on-length (condition_of condition) rel
 
 none-left : (xs : List FlowOp) (i : ℕ) → length xs ≤ i → drop i xs ≡ []
 none-left xs i le = grind (arith, common_steps)

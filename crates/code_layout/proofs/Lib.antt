@@ -7,5 +7,4 @@ pub mod Laying
 pub mod Laid
 pub mod Blocks
 pub mod Program
-pub mod Conditions
 pub mod Spelled

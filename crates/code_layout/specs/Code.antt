@@ -1,6 +1,7 @@
 -- The items of a block, and their bytes. This project's own.
 use Rattle.std.specs.Prelude.{ℕ, ◌+◌, ◌-◌, ◌%◌, ◌^◌, ◌==◌, List, [], ◌∷◌, ◌++◌, map, find, length, Option, None, Some, if◌then◌else◌}
-use Rattle.machines.specs.Prelude.{Instr, condition_number, spelling, Op, Jcc, Jmp, JmpTo, Base, eax, Condition, Below, NotBelow, Equal, NotEqual, NotAbove, Above, Sign, NotSign, Less, NotLess, NotGreater, Greater, Map, behind as next_address}
+use Rattle.ia_codec.specs.Reading.{condition_of_number}
+use Rattle.machines.specs.Prelude.{Instr, spelling, Op, Jcc, Jmp, JmpTo, Base, eax, Condition, NotBelow, Map, behind as next_address}
 pub use Rattle.reg_map.specs.Relocated.{operand_at, op_at, IsPlaceable}
 pub use Rattle.symbolic_tiles.specs.Marks.{IsLaid, is_mark}
 use Rattle.code_layout.specs.Leap.{leap_ops}
@@ -51,21 +52,13 @@ edge_bytes area ops target here = placed area ops ++ spelling (Jmp ((target + (2
 abbrev pub leap_bytes : Places → ℕ → List ℕ
 leap_bytes p here = spelled (leap_ops p.first p.count) ++ (spelling (Jcc NotBelow ((p.hold + (2 ^ 32 - (here + 26))) % 2 ^ 32)) ++ spelling (JmpTo (Base eax p.table)))
 
--- the conditions of jumps, by their numbers
-abbrev pub conditions : List Condition
-conditions = Below ∷ NotBelow ∷ Equal ∷ NotEqual ∷ NotAbove ∷ Above ∷ Sign ∷ NotSign ∷ Less ∷ NotLess ∷ NotGreater ∷ Greater ∷ []
-
--- the condition of a number
-abbrev pub condition_of : ℕ → Option Condition
-condition_of number = find (λ condition. condition_number condition == number) conditions
-
 abbrev pub jump_on : Option Condition → ℕ → Op
 jump_on (Some condition) rel = Jcc condition rel
 jump_on None rel = Jmp rel
 
 -- a jump over so many bytes: on the condition of this number, or always
 abbrev pub jump : ℕ → ℕ → Op
-jump condition rel = jump_on (condition_of condition) rel
+jump condition rel = jump_on (condition_of_number condition) rel
 
 -- how many bytes an item has, where edges have these moves
 abbrev pub item_length : (ℕ → Moves) → FlowOp → ℕ

@@ -5,7 +5,7 @@ pub use Rattle.code_layout.specs.Places.{Moves, Places, entry_of, no_moves, no_r
 pub use Rattle.code_layout.specs.PlacesOf.{places_of}
 pub use Rattle.reg_map.specs.Relocated.{IsPlaceable, op_at, operand_at}
 pub use Rattle.code_layout.specs.Leap.{leap_ops}
-pub use Rattle.code_layout.specs.Code.{condition_of, conditions, edge_bytes, item_bytes, item_length, jump, jump_on, leap_bytes, moves_ops, ops_at, placed, spelled, word_ops}
+pub use Rattle.code_layout.specs.Code.{edge_bytes, item_bytes, item_length, jump, jump_on, leap_bytes, moves_ops, ops_at, placed, spelled, word_ops}
 unfoldable pub use Rattle.code_layout.specs.Code.{before_mark, block_items, items_bytes, items_length}
 pub use Rattle.code_layout.specs.Layout.{BeginsAt, IsCodeFor, IsLaidFor, block_length, code_bytes, items_of, stands_at, words_of}
 unfoldable pub use Rattle.code_layout.specs.Layout.{blocks_bytes}

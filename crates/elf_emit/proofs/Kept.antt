@@ -9,7 +9,7 @@ use Rattle.space.specs.declared.program.Segment.{Segment}
 use Rattle.space.specs.declared.program.Program.{Program}
 use Rattle.branch_table.specs.declared.code.Code.{Code}
 use Rattle.elf_load.specs.Prelude.{zeros, is_code_segment}
-use Rattle.elf_emit.specs.Prelude.{in_memory, kept, source, whole, without_exec, added, file_segments, translated}
+use Rattle.elf_emit.specs.Prelude.{in_memory, kept, source, whole, as_data, added, file_segments, translated}
 
 abbrev is_zero : ℕ → Bool
 is_zero b = b == 0
@@ -61,7 +61,7 @@ kept_bound s = all_bytes (is_code_segment s) s.bytes
 pub length_source : (s : Segment) → length (source s).bytes ≡ kept s
 length_source s = length-take-le (kept s) s.bytes (kept_bound s)
 
-pub source_in_memory : (s : Segment) → in_memory (source s) ≡ without_exec s
+pub source_in_memory : (s : Segment) → in_memory (source s) ≡ as_data s
 source_in_memory s =
     let size = length_source s in
     let bytes : take (kept s) s.bytes ++ zeros (length s.bytes - length (take (kept s) s.bytes)) ≡ s.bytes =
@@ -75,11 +75,11 @@ whole_in_memory s =
     ap (λ (n : ℕ). s.bytes ++ zeros n) none ∙ ap (λ (xs : List ℕ). s.bytes ++ xs) no_zeros ∙ append-nil s.bytes in
     ap (λ (xs : List ℕ). let t : Segment = record { at = s.at; write = s.write; exec = s.exec; bytes = xs } in t) bytes
 
-sources_in_memory : (ss : List Segment) → map in_memory (map source ss) ≡ map without_exec ss
+sources_in_memory : (ss : List Segment) → map in_memory (map source ss) ≡ map as_data ss
 sources_in_memory [] = refl
 sources_in_memory (s ∷ ss) =
     ap (λ (t : Segment). t ∷ map in_memory (map source ss)) (source_in_memory s)
-    ∙ ap (λ (ts : List Segment). without_exec s ∷ ts) (sources_in_memory ss)
+    ∙ ap (λ (ts : List Segment). as_data s ∷ ts) (sources_in_memory ss)
 
 all_in_memory : (ss : List Segment) → map in_memory (map whole ss) ≡ ss
 all_in_memory [] = refl
@@ -93,4 +93,4 @@ pub file_in_memory : (program : Program) (code : Code) (area : ℕ)
 file_in_memory program code area =
     map-append in_memory (map source program.segments) (map whole (added code area))
     ∙ ap (λ (ts : List Segment). ts ++ map in_memory (map whole (added code area))) (sources_in_memory program.segments)
-    ∙ ap (λ (ts : List Segment). map without_exec program.segments ++ ts) (all_in_memory (added code area))
+    ∙ ap (λ (ts : List Segment). map as_data program.segments ++ ts) (all_in_memory (added code area))

@@ -14,7 +14,7 @@ use Rattle.space.specs.declared.program.Segment.{Segment}
 use Rattle.space.specs.declared.program.Program.{Program}
 use Rattle.branch_table.specs.declared.code.Code.{Code}
 use Rattle.elf_load.specs.Prelude.{IsArea, MeetsArea, IsProgramOf, zeros}
-use Rattle.elf_emit.specs.Prelude.{FileSegment, word, elf_file, is_code, IsSound, AreApart, AreLoadable, source, whole, home_page, home, table, ops, added, file_segments, translated, FitsArea}
+use Rattle.elf_emit.specs.Prelude.{FileSegment, word, elf_file, is_code, IsSound, AreApart, AreLoadable, source, whole, home_page, home_segment, table_segment, table_bytes, code_segment, added, file_segments, translated, FitsArea}
 use Rattle.elf_emit.proofs.Kept.{kept_bound, length_source, file_in_memory}
 use Rattle.elf_emit.proofs.Loads.{written_file_loads}
 use Rattle.elf_emit.proofs.Source.{HasPlace, SharesNone, memory_of, AreOfProgram, of_program, length_zeros}
@@ -117,9 +117,9 @@ pub file_segments_load : (program : Program) (code : Code) (area : ℕ) → AreO
     → FitsArea code → AreLoadable (file_segments program code area) (length program.segments + 2)
 file_segments_load program code area of is fits =
     let ss : List Segment = program.segments in
-    let h : FileSegment = whole (home area) in
-    let t : FileSegment = whole (table code area) in
-    let c : FileSegment = whole (ops code area) in
+    let h : FileSegment = whole (home_segment area) in
+    let t : FileSegment = whole (table_segment area (table_bytes code)) in
+    let c : FileSegment = whole (code_segment area code.bytes) in
     let hs : h.size ≡ 4096 = length_home_page in
     let ts : t.size ≡ 4 * length code.entries = length_of_table code.entries in
     let some_entries = fits.some_entries in

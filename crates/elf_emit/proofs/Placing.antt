@@ -62,12 +62,6 @@ most end ss = end + 4096 * length ss + sum_by (λ s. length s.bytes) ss
 abbrev pub limit : ℕ
 limit = 52 + 32 * 96 + 4096 * 96 + 0x10000000
 
-pub most_first : (parts : List Part) → AreFew (all_shown parts) → most (headers_end (length parts)) (all_shown parts) ≤ limit
-most_first parts are =
-    let few = are.few in
-    let small = are.small in
-    omega (arith, length-map parts shown)
-
 most_left : (parts : List Part) (i n : ℕ) (d : Part) → i < length parts
     → most n (all_shown (drop i parts)) ≡ n + 4096 + length (get_or parts i d).bytes.now + 4096 * length (all_shown (drop (i + 1) parts))
     + sum_by (λ s. length s.bytes) (all_shown (drop (i + 1) parts))
@@ -77,11 +71,6 @@ most_left parts i n d lt =
     let cons : sum_by (λ t. length t.bytes) (s ∷ ss) ≡ length s.bytes + sum_by (λ t. length t.bytes) ss = sum_by-cons (λ (t : FileSegment). length t.bytes) s ss in
     let all : most n (s ∷ ss) ≡ n + 4096 + length s.bytes + 4096 * length ss + sum_by (λ t. length t.bytes) ss = omega arith in
     ap (most n) (left_from parts i d lt) ∙ all
-
--- a segment that is left has room
-pub most_here : (parts : List Part) (i n : ℕ) (d : Part) → i < length parts → most n (all_shown (drop i parts)) ≤ limit
-    → n + 4096 + length (get_or parts i d).bytes.now ≤ limit
-most_here parts i n d lt le = omega (arith, most_left parts i n d lt)
 
 pub most_more : (parts : List Part) (i n m : ℕ) (d : Part) → i < length parts → most n (all_shown (drop i parts)) ≤ limit
     → m < n + 4096 + length (get_or parts i d).bytes.now → most m (all_shown (drop (i + 1) parts)) ≤ limit

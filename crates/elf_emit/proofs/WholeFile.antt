@@ -8,7 +8,7 @@ use Rattle.space.specs.declared.program.Segment.{Segment}
 use Rattle.space.specs.declared.program.Program.{Program}
 use Rattle.branch_table.specs.declared.code.Code.{Code}
 use Rattle.elf_load.specs.Prelude.{IsArea, IsProgramOf}
-use Rattle.elf_emit.specs.Prelude.{FileSegment, elf_file, shown, all_shown, AreFew, source, whole, home, table, ops, file_segments, translated, FitsArea, Part}
+use Rattle.elf_emit.specs.Prelude.{FileSegment, elf_file, shown, all_shown, AreFew, source, whole, home_segment, table_segment, table_bytes, code_segment, file_segments, translated, FitsArea, Part}
 use Rattle.elf_emit.proofs.Loadable.{file_segments_load, file_loads}
 use Rattle.elf_emit.proofs.Placing.{bytes_within}
 use Rattle.elf_emit.proofs.Source.{HasPlace, of_program}
@@ -31,8 +31,8 @@ is_whole at size write exec bytes s e0 e1 e2 e3 e4 = cc
 
 -- the segments of the program with three more
 pub parts_of_file : (program : Program) (code : Code) (area : ℕ) (p0 p1 p2 p3 : List Part) (a b c : Part) → all_shown p0 ≡ map source program.segments
-    → p1 ≡ p0 ++ a ∷ [] → p2 ≡ p1 ++ b ∷ [] → p3 ≡ p2 ++ c ∷ [] → shown a ≡ whole (home area) → shown b ≡ whole (table code area)
-    → shown c ≡ whole (ops code area) → all_shown p3 ≡ file_segments program code area
+    → p1 ≡ p0 ++ a ∷ [] → p2 ≡ p1 ++ b ∷ [] → p3 ≡ p2 ++ c ∷ [] → shown a ≡ whole (home_segment area) → shown b ≡ whole (table_segment area (table_bytes code))
+    → shown c ≡ whole (code_segment area code.bytes) → all_shown p3 ≡ file_segments program code area
 parts_of_file program code area p0 p1 p2 p3 a b c e0 e1 e2 e3 as_home as_table as_ops =
     let ss : List FileSegment = map source program.segments in
     let one : all_shown p1 ≡ ss ++ shown a ∷ [] =
@@ -45,8 +45,8 @@ parts_of_file program code area p0 p1 p2 p3 a b c e0 e1 e2 e3 as_home as_table a
     append_assoc (ss ++ shown a ∷ []) (shown b ∷ []) (shown c ∷ []) ∙ append_assoc ss (shown a ∷ []) (shown b ∷ shown c ∷ []) in
     three ∙ group
     ∙ ap (λ (x : FileSegment). ss ++ x ∷ shown b ∷ shown c ∷ []) as_home
-    ∙ ap (λ (x : FileSegment). ss ++ whole (home area) ∷ x ∷ shown c ∷ []) as_table
-    ∙ ap (λ (x : FileSegment). ss ++ whole (home area) ∷ whole (table code area) ∷ x ∷ []) as_ops
+    ∙ ap (λ (x : FileSegment). ss ++ whole (home_segment area) ∷ x ∷ shown c ∷ []) as_table
+    ∙ ap (λ (x : FileSegment). ss ++ whole (home_segment area) ∷ whole (table_segment area (table_bytes code)) ∷ x ∷ []) as_ops
 
 -- they are few enough to be written
 pub few_parts : (program : Program) (code : Code) (area : ℕ) (segments : List FileSegment) → (bytes : List ℕ) × IsProgramOf PowerPc bytes program

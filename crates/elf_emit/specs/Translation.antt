@@ -31,32 +31,44 @@ whole s = record { at = s.at; size = length s.bytes; write = s.write; exec = s.e
 unfoldable pub home_page : List ℕ
 home_page = word 0 ++ word 0x7F0FFFC0 ++ zeros 4088
 
--- what a translation adds to the program: the home page, the table and the code
-abbrev pub home : ℕ → Segment
-home area = record { at = area; write = true; exec = false; bytes = home_page }
+-- what a translation adds to the program, in the host area: the home page, the table and the code
+abbrev pub home_segment : ℕ → Segment
+home_segment area = record { at = area; write = true; exec = false; bytes = home_page }
 
-abbrev pub table : Code → ℕ → Segment
-table code area = record { at = area + 0x1000; write = false; exec = false; bytes = flat_map (little_bytes 4) code.entries }
+abbrev pub table_segment : ℕ → List ℕ → Segment
+table_segment area table = record { at = area + 0x1000; write = false; exec = false; bytes = table }
 
-abbrev pub ops : Code → ℕ → Segment
-ops code area = record { at = area + 0x81000; write = false; exec = true; bytes = code.bytes }
+abbrev pub code_segment : ℕ → List ℕ → Segment
+code_segment area code = record { at = area + 0x81000; write = false; exec = true; bytes = code }
+
+abbrev pub added_segments : ℕ → List ℕ → List ℕ → List Segment
+added_segments area table code = home_segment area ∷ table_segment area table ∷ code_segment area code ∷ []
+
+-- the table's bytes: a word for each word of the program's code, its lowest byte first
+abbrev pub table_bytes : Code → List ℕ
+table_bytes code = flat_map (little_bytes 4) code.entries
 
 abbrev pub added : Code → ℕ → List Segment
-added code area = home area ∷ table code area ∷ ops code area ∷ []
+added code area = added_segments area (table_bytes code) code.bytes
 
 -- the segments of the file, in the order of its headers
 abbrev pub file_segments : Program → Code → ℕ → List FileSegment
 file_segments program code area = map source program.segments ++ map whole (added code area)
 
-abbrev pub without_exec : Segment → Segment
-without_exec s = record s { exec = false }
+-- a segment of the program in memory: nothing of it is run
+abbrev pub as_data : Segment → Segment
+as_data s = record s { exec = false }
+
+-- in the order of the headers: the program's, its stack last, then home, table and code
+abbrev pub written_segments : List Segment → ℕ → List ℕ → List ℕ → List Segment
+written_segments segments area table code = map as_data segments ++ added_segments area table code
 
 -- what the file is in memory: the program, of which nothing is executed, and what is added
 abbrev pub translated : Program → Code → ℕ → Program
 translated program code area = record {
   kind = Ia32;
   entry = code.start;
-  segments = map without_exec program.segments ++ added code area;
+  segments = written_segments program.segments area (table_bytes code) code.bytes;
   code = length program.segments + 2;
 }
 

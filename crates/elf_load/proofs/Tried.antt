@@ -43,39 +43,6 @@ rule_at-number_of refusal.NoRoom = refl
 pub number_of-injective : (r s : ElfRefusal) → number_of r ≡ number_of s → r ≡ s
 number_of-injective r s e = sym (rule_at-number_of r) ∙ ap rule_at e ∙ rule_at-number_of s
 
-pub passes_none : (kind : Kind) (bytes : List ℕ) → PassesBelow 1 kind bytes
-passes_none kind bytes refusal.Short h = absurd (omega arith)
-passes_none kind bytes refusal.Magic h = absurd (omega arith)
-passes_none kind bytes refusal.Class h = absurd (omega arith)
-passes_none kind bytes refusal.Order h = absurd (omega arith)
-passes_none kind bytes refusal.Version h = absurd (omega arith)
-passes_none kind bytes refusal.Type h = absurd (omega arith)
-passes_none kind bytes refusal.Machine h = absurd (omega arith)
-passes_none kind bytes refusal.HeaderSize h = absurd (omega arith)
-passes_none kind bytes refusal.HeaderCount h = absurd (omega arith)
-passes_none kind bytes refusal.TableOutside h = absurd (omega arith)
-passes_none kind bytes refusal.Dynamic h = absurd (omega arith)
-passes_none kind bytes refusal.SegmentOutside h = absurd (omega arith)
-passes_none kind bytes refusal.SizesCrossed h = absurd (omega arith)
-passes_none kind bytes refusal.HighSegment h = absurd (omega arith)
-passes_none kind bytes refusal.Overlap h = absurd (omega arith)
-passes_none kind bytes refusal.TooMuchMemory h = absurd (omega arith)
-passes_none kind bytes refusal.CodeCount h = absurd (omega arith)
-passes_none kind bytes refusal.CodeLong h = absurd (omega arith)
-passes_none kind bytes refusal.Entry h = absurd (omega arith)
-passes_none kind bytes refusal.StackOverlap h = absurd (omega arith)
-passes_none kind bytes refusal.NoRoom h = absurd (omega arith)
-
--- a file that passes the rules below a number and the rule of that number passes those below the next
-pub passes_next : (kind : Kind) (bytes : List ℕ) (rule : ElfRefusal) (n : ℕ) → number_of rule ≡ n
-    → PassesBelow n kind bytes → Passes rule kind bytes → PassesBelow (n + 1) kind bytes
-passes_next kind bytes rule n is below here r h =
-    below_more (λ k. (s : ElfRefusal) → number_of s ≡ k → Passes s kind bytes) n
-    (λ k lt s e. below s (omega arith))
-    (λ s e. let same : rule ≡ s = number_of-injective rule s (is ∙ sym e) in
-    subst (λ (t : ElfRefusal). Passes t kind bytes) same here)
-    (number_of r) h r refl
-
 pub le_of_not-lt : (a b : ℕ) → ¬ (a < b) → b ≤ a
 le_of_not-lt a b h = omega arith
 
@@ -126,27 +93,3 @@ pub lies_inside : (kind : Kind) (bytes : List ℕ) (n : ℕ) → PassesBelow n k
 lies_inside kind bytes n below late k within h is =
     subst (λ (g : ProgramHeader). is_segment g ≡ true → (g.offset + g.filesz ≤ length bytes) × (g.filesz ≤ g.memsz))
     (sym is) (inside_at kind bytes n below late k within)
-
--- every rule has a number below 22
-pub numbers_end : (rule : ElfRefusal) → number_of rule < 22
-numbers_end refusal.Short = lit< tt
-numbers_end refusal.Magic = lit< tt
-numbers_end refusal.Class = lit< tt
-numbers_end refusal.Order = lit< tt
-numbers_end refusal.Version = lit< tt
-numbers_end refusal.Type = lit< tt
-numbers_end refusal.Machine = lit< tt
-numbers_end refusal.HeaderSize = lit< tt
-numbers_end refusal.HeaderCount = lit< tt
-numbers_end refusal.TableOutside = lit< tt
-numbers_end refusal.Dynamic = lit< tt
-numbers_end refusal.SegmentOutside = lit< tt
-numbers_end refusal.SizesCrossed = lit< tt
-numbers_end refusal.HighSegment = lit< tt
-numbers_end refusal.Overlap = lit< tt
-numbers_end refusal.TooMuchMemory = lit< tt
-numbers_end refusal.CodeCount = lit< tt
-numbers_end refusal.CodeLong = lit< tt
-numbers_end refusal.Entry = lit< tt
-numbers_end refusal.StackOverlap = lit< tt
-numbers_end refusal.NoRoom = lit< tt

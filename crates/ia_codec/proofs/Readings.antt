@@ -8,7 +8,7 @@ use Rattle.std.proofs.lemmas.Bool.Decides.{leb_tells}
 use Rattle.std.proofs.lemmas.Slice.Eq.{bytes_eq-Decides}
 use Rattle.std.proofs.lemmas.List.{length-take}
 use Rattle.ia_codec.specs.Prelude.{Operand, Reg, Abs, Base, Pair, MovzxByte, MovzxHalf, MovsxByte, MovsxHalf, Op, AluTo, AluFrom, AluImm, TestReg, TestImm, Unary, Imul, MovTo, MovFrom, MovImm, MovToImm, MovHalfTo, MovByteTo, MovByteFrom, Shift, ShiftByCl, Lea, Extend, Bswap, Set, Cmov, Bsr, Cdq, Jcc, Jmp, JmpTo, Int80, Int3, Ud2, spelling, IsSpelt, IsReg, IsOperand, IsMemory, IsSum, IsByte, IsInProfile, IsReading, read}
-use Rattle.ia_codec.proofs.Spelt.{read-spelt, one_spelt, spelt-spelling}
+use Rattle.ia_codec.proofs.Spelt.{read-spelt, one_spelt}
 
 abbrev Settled : Type 0 → Type 0
 Settled P = P ⊎ (P → ⊥)
@@ -171,7 +171,3 @@ readings-agree f g p q bytes = answer-reading g q bytes (f bytes) (by (f bytes) 
     by : (y : Option (Op × ℕ)) → f bytes ≡ y → IfSome y (λ x. IsSpelt x.0 bytes x.1)
     by None e = tt
     by (Some y) e = (p.exact bytes y.0 y.1).0 e
-
--- A reading gives the op whose spelling is there, whatever comes after it.
-pub reading-spelling : (f : List ℕ → Option (Op × ℕ)) → IsReading f → (op : Op) (rest : List ℕ) → IsInProfile op → f (spelling op ++ rest) ≡ found (op, length (spelling op))
-reading-spelling f is op rest h = (is.exact (spelling op ++ rest) op (length (spelling op))).1 (spelt-spelling op rest h)

@@ -17,10 +17,6 @@ some_is x y e = cc
 not_some : (x : Op × List ℕ) → none ≡ some x → ⊥
 not_some x e = absurd cc
 
--- The spelling of an op of the profile is spelt there, whatever comes after it.
-pub spelt-spelling : (op : Op) (rest : List ℕ) → IsInProfile op → IsSpelt op (spelling op ++ rest) (length (spelling op))
-spelt-spelling op rest h = record { profile = h; within = omega (arith, length-append (spelling op) rest); front = take-append_seam (spelling op) rest }
-
 -- What is spelt is read.
 pub read-spelt : (op : Op) (bytes : List ℕ) (k : ℕ) → IsSpelt op bytes k → read bytes ≡ some (op, drop k bytes)
 read-spelt op bytes k h =

@@ -17,15 +17,6 @@ pub code_found : (o : Option Segment) (a : ℕ) (b : List ℕ) → option_and_th
 code_found None a b h = absurd cc
 code_found (Some s) a b h = in_code s a b (has_address a s) refl h
 
-no_code : (s : Segment) (a : ℕ) (x : Bool) → has_address a s ≡ x → cond x (Some (drop (a - s.at) s.bytes)) None ≡ None → is_code (code_in (Some s)) a ≡ false
-no_code s a true e h = absurd cc
-no_code s a false e h = e
-
--- where none were found there is no code
-pub code_missing : (o : Option Segment) (a : ℕ) → option_and_then (bytes_from a) o ≡ None → is_code (code_in o) a ≡ false
-code_missing None a h = grind arith
-code_missing (Some s) a h = no_code s a (has_address a s) refl h
-
 -- bytes that begin with no spelling are read as none
 pub none_read : (ops : List ℕ → Option Fetched) → ReadsOps ops → (l : List ℕ) → ((op : Op) (k : ℕ) → IsSpelt op l k → ⊥) → ops l ≡ None
 none_read ops reads l h = by_read (ops l) refl

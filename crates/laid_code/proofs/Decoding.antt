@@ -25,20 +25,6 @@ next_bytes_at code here x y h = record {
   begins = omega (arith, length-append h.before x, h.begins);
 }
 
--- bytes one behind another stand together
-pub join_bytes : (code : Code) (here : ℕ) (x y : List ℕ) → HasBytes code here x → HasBytes code (here + length x) y → HasBytes code here (x ++ y)
-join_bytes code here x y first next =
-    let whole : (first.before ++ x) ++ first.behind ≡ next.before ++ (y ++ next.behind) = append_assoc first.before x first.behind ∙ sym first.cut ∙ next.cut in
-    let same : length (first.before ++ x) ≡ length next.before = omega (arith, length-append first.before x, first.begins, next.begins) in
-    let rest : first.behind ≡ y ++ next.behind =
-    sym (drop-append_seam (first.before ++ x) first.behind) ∙ ap (λ (z : List ℕ). drop (length (first.before ++ x)) z) whole ∙ ap (λ (n : ℕ). drop n (next.before ++ (y ++ next.behind))) same ∙ drop-append_seam next.before (y ++ next.behind) in
-    record {
-      before = first.before;
-      behind = next.behind;
-      cut = first.cut ∙ ap (λ (z : List ℕ). first.before ++ (x ++ z)) rest ∙ ap (λ (z : List ℕ). first.before ++ z) (sym (append_assoc x y next.behind));
-      begins = first.begins;
-    }
-
 -- a spelling begins twelve bytes from it on
 spelt_in_twelve : (op : Op) (rest : List ℕ) → IsInProfile op → IsSpelt op (take 12 (spelling op ++ rest)) (length (spelling op))
 spelt_in_twelve op rest ok = record {

@@ -15,12 +15,6 @@ one area n (Pair b x s d) = refl
 with : (area n : ℕ) (m : Operand) (imm : List ℕ) → length (modrm n (operand_at area m) ++ imm) ≡ length (modrm n m ++ imm)
 with area n m imm = length-append (modrm n (operand_at area m)) imm ∙ ap (λ k. k + length imm) (one area n m) ∙ sym (length-append (modrm n m) imm)
 
-after_one : (x y : List ℕ) → length x ≡ length y → 1 + length x ≡ 1 + length y
-after_one x y e = omega arith
-
-after_two : (x y : List ℕ) → length x ≡ length y → 2 + length x ≡ 2 + length y
-after_two x y e = omega arith
-
 -- where the home page stands changes no op's length
 pub placed_length : (area : ℕ) (op : Op) → length (spelling (op_at area op)) ≡ length (spelling op)
 placed_length area (AluTo op to from) = ap suc (one area from to)

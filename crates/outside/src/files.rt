@@ -36,12 +36,12 @@ pub trait Files {
         ensures bytes { IfOk result (λ v. IsTrue (tells self.old) → Reads (held self.old name.now) most v.items) }
         ensures bound { IfOk result (λ v. length v.items ≤ most) }
         ensures stands { Stands (tells self.old) (tells self.new) (held self.old) (held self.new) }
-        ensures cause { HasFileCause (read_faults self.old) (read_faults self.new) (replace_faults self.old) (replace_faults self.new) name.now result };
+        ensures cause { HasFileCause FileFault.Failed (read_faults self.old) (read_faults self.new) (replace_faults self.old) (replace_faults self.new) name.now result };
 
     /// Puts these bytes under the name, in the place of what stood there. Where it is refused, what
     /// stands under that name is open. The bytes under every other name stand.
     fn replace(&mut self, name: &str, bytes: &[u8]) -> Result<(), FileFault>
         ensures bytes { OnOk result (IsTrue (tells self.old) → held self.new name.now ≡ Some bytes.now) }
         ensures stands { StandsBut name.now (tells self.old) (tells self.new) (held self.old) (held self.new) }
-        ensures cause { HasFileCause (replace_faults self.old) (replace_faults self.new) (read_faults self.old) (read_faults self.new) name.now result };
+        ensures cause { HasFileCause FileFault.Failed (replace_faults self.old) (replace_faults self.new) (read_faults self.old) (read_faults self.new) name.now result };
 }

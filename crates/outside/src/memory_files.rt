@@ -67,7 +67,7 @@ impl Files for MemFiles {
         ensures bytes { IfOk result (λ v. Reads (held_in self.old name.now) most v.items) }
         ensures bound { IfOk result (λ v. length v.items ≤ most) }
         ensures stands { Stands true true (held_in self.old) (held_in self.new) }
-        ensures cause { HasFileCause (read_faults_of self.old) (read_faults_of self.new) (replace_faults_of self.old) (replace_faults_of self.new) name.now result }
+        ensures cause { HasFileCause FileFault.Failed (read_faults_of self.old) (read_faults_of self.new) (replace_faults_of self.old) (replace_faults_of self.new) name.now result }
 
         // It fails at the stated calls and at an absent name, and counts each failure once.
         ensures fails { FailsExactly (fails_next (calls_of self.old) || is_none (held_in self.old name.now)) result }
@@ -88,7 +88,7 @@ impl Files for MemFiles {
     fn replace(&mut self, name: &str, bytes: &[u8]) -> Result<(), FileFault>
         ensures bytes { OnOk result (held_in self.new name.now ≡ Some bytes.now) }
         ensures stands { StandsBut name.now true true (held_in self.old) (held_in self.new) }
-        ensures cause { HasFileCause (replace_faults_of self.old) (replace_faults_of self.new) (read_faults_of self.old) (read_faults_of self.new) name.now result }
+        ensures cause { HasFileCause FileFault.Failed (replace_faults_of self.old) (replace_faults_of self.new) (read_faults_of self.old) (read_faults_of self.new) name.now result }
 
         // It fails at the stated calls, changes nothing then, and counts each failure once.
         ensures fails { FailsExactly (fails_next (calls_of self.old)) result }

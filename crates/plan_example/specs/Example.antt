@@ -10,7 +10,7 @@ use Rattle.symbolic_tiles.specs.Prelude.{Window, window_of}
 use Rattle.code_layout.specs.Prelude.{no_registers, Moves, Places, items_bytes}
 use Rattle.simulation.specs.Prelude.{rows_of, PlanStep, Move, Tile, FlowTile}
 use Rattle.laid_code.specs.Prelude.{Interface, plan_items}
-use Rattle.upkeep.specs.Written.{written_segments}
+use Rattle.elf_emit.specs.Prelude.{written_segments}
 
 -- addi r3,r3,1; addi r3,r3,2; addi r3,r3,3; b to the first, from this address on
 abbrev pub first : ℕ
@@ -144,4 +144,4 @@ table = flat_map (little_bytes 4) entries
 
 -- the file's program: the source's segment, then home page, table and code
 abbrev pub translation : Program
-translation = record { kind = Ia32; entry = first_block; segments = written_segments program area table code; code = 3 }
+translation = record { kind = Ia32; entry = first_block; segments = written_segments program.segments area table code; code = 3 }

@@ -69,6 +69,3 @@ arith_six s b h =
     let f : b / 2 ^ 5 % 2 ≡ 1 → arith_by s (b % 64) ≡ shifted_arith s 31 = λ k. ap (λ n. arith_by s n) (far_amount b k) ∙ arith_far s (b % 32) h in
     let n : b / 2 ^ 5 % 2 ≡ 0 → arith_by s (b % 64) ≡ shifted_arith s b = λ k. ap (λ n. arith_by s n) (near_amount b k) in
     chosen (b / 2 ^ 5 % 2) r (shifted_arith s 31) (shifted_arith s b) (arith_by s (b % 64)) f n
-
-pub kept_six : (x b : ℕ) → cond (bit_of b 5) 0 (shifted_left x b) ≡ left_by x (b % 64)
-kept_six x b = left_six x b

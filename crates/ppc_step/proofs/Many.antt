@@ -22,13 +22,6 @@ store_wraps (suc n) a b v f e =
     let on : (a + 1) % 2 ^ 32 ≡ (b + 1) % 2 ^ 32 = omega arith in
     rw e (store_wraps n (a + 1) (b + 1) v (update f (b % 2 ^ 32) (v / 256 ^ n % 256)) on)
 
-pub each_wraps : (test : ℕ → Bool) (n a b : ℕ) → a % 2 ^ 32 ≡ b % 2 ^ 32 → each_byte test n a ≡ each_byte test n b
-unfolding each_byte
-each_wraps test zero a b e = refl
-each_wraps test (suc n) a b e =
-    let on : (a + 1) % 2 ^ 32 ≡ (b + 1) % 2 ^ 32 = omega arith in
-    rw (e, each_wraps test n (a + 1) (b + 1) on) refl
-
 -- a further register is put
 puts_next : (n s a : ℕ) (locs f : ℕ → ℕ) → store_registers (suc n) s a locs f ≡ store_big 4 (a + 4 * n) (locs (s + n)) (store_registers n s a locs f)
 unfolding store_registers

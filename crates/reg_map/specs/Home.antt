@@ -7,29 +7,9 @@ use Rattle.std.specs.Prelude.{◌≡◌, ◌≢◌, ℕ, ◌+◌, ◌*◌, ◌<�
 abbrev pub gpr_home : ℕ → ℕ
 gpr_home g = 4 * g
 
--- the home words of LR and CTR
-abbrev pub lr_home : ℕ
-lr_home = 128
-
-abbrev pub ctr_home : ℕ
-ctr_home = 132
-
 -- the home byte of CR field f, with LT 8, GT 4, EQ 2 and SO 1
 abbrev pub cr_home : ℕ → ℕ
 cr_home f = 136 + f
-
--- the home bytes of the parts of XER
-abbrev pub ca_home : ℕ
-ca_home = 144
-
-abbrev pub so_home : ℕ
-so_home = 145
-
-abbrev pub ov_home : ℕ
-ov_home = 146
-
-abbrev pub xc_home : ℕ
-xc_home = 147
 
 -- how many locations there are
 abbrev pub location_count : ℕ

@@ -4,10 +4,6 @@ use Rattle.machines.specs.Prelude.{Map, Operand, Reg, Abs, ebx, esi, edi}
 pub use Rattle.ppc_isa.specs.Map.{IsMap}
 use Rattle.reg_map.specs.Home.{gpr_home}
 
--- the map that holds no GPR
-abbrev pub IsEmpty : Map → Type 0
-IsEmpty m = (m.ebx ≡ None) × (m.esi ≡ None) × (m.edi ≡ None)
-
 -- a slot's content is GPR g
 abbrev pub holds : Option ℕ → ℕ → Bool
 holds None g = false

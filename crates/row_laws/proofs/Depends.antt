@@ -332,7 +332,7 @@ each (ShiftImmediate s a by records) = shift_immediate s a by records
 each (LogicUnary op s a records) = logic_unary op s a records
 each (Compare op field a b) = compare op field a b
 each (Trap to a b) = λ rights p q next bytes legal fp fq h.
-    let i = Trap to a b in
+    let i : Instr = Trap to a b in
     trapping (effect_of i (state p next bytes)).taken (effect_of i (state q next bytes)).taken p q next bytes
     (both (λ x y. trap_holds to x y) (same_first a (b ∷ []) p q h) (same_first b [] p q (same_later a (b ∷ []) p q h)))
 each (MoveFromCr d) = λ rights p q next bytes legal fp fq h. going (d ∷ []) (update p d (cr_word p)) (update q d (cr_word q)) p q next bytes (one_same d (cr_word p) (cr_word q) p q (cr_same p q h))

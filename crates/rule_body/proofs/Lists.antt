@@ -7,14 +7,6 @@ all-at P [] i d h below = absurd (omega (arith, below))
 all-at P (x ∷ xs) zero d h below = h.0
 all-at P (x ∷ xs) (suc i) d h below = all-at P xs i d h.1 (omega (arith, below))
 
-pub all-more : {X : Type 0} (P : X → Type 0) (xs : List X) (i : ℕ) (d : X) → AllByRecursion P (take i xs) → i < length xs → P (get_or xs i d) → AllByRecursion P (take (i + 1) xs)
-all-more {X} P xs i d h below one = subst (λ k. AllByRecursion P (take k xs)) (sym (add-one i)) (go xs i h below one)
-  where
-    go : (xs : List X) (i : ℕ) → AllByRecursion P (take i xs) → i < length xs → P (get_or xs i d) → AllByRecursion P (take (suc i) xs)
-    go [] i h below one = tt
-    go (x ∷ xs) zero h below one = (one, tt)
-    go (x ∷ xs) (suc i) h below one = (h.0, go xs i h.1 (omega (arith, below)) one)
-
 pub all-taken : {X : Type 0} (P : X → Type 0) (xs : List X) (n : ℕ) → AllByRecursion P (take n xs) → length xs ≤ n → AllByRecursion P xs
 all-taken P [] n h most = tt
 all-taken P (x ∷ xs) zero h most = absurd (omega (arith, most))

@@ -13,11 +13,6 @@ not-zero word m n none is some small e =
     let same = decimal_injective m n (omega (arith, none)) (omega (arith, small)) (sym is ∙ e) in
     absurd (omega (arith, same, none, some))
 
--- a word that is no variable and no negated one is no literal
-pub no-literal : (word : List ℕ) → ((n : ℕ) → 0 < n → n < 2 ^ 31 → word ≢ decimal n) → ((n : ℕ) → 0 < n → n < 2 ^ 31 → word ≢ 45 ∷ decimal n) → (z : ℤ) → IsLiteral z → word ≢ literal_word z
-no-literal word a b (pos n) h = a n h.nonzero h.within
-no-literal word a b (negsuc n) h = b (suc n) h.nonzero h.within
-
 pub rising-fit : (low : ℕ) (zs : List ℤ) → AreRising low zs → AllByRecursion IsLiteral zs
 rising-fit low [] h = tt
 rising-fit low (z ∷ zs) h = (record { nonzero = omega (arith, h.0); within = h.1 }, rising-fit (variable z) zs h.2)

@@ -15,13 +15,6 @@ empty : (rest : List ℕ) → length rest ≡ 0 → rest ≡ []
 empty [] e = refl
 empty (b ∷ bs) e = absurd (omega (arith, e))
 
-pub end-found : (text rest : List ℕ) (p : Progress) (v : Vec Rule Global) (n : ℕ) → IsRead rules text rest (state_of p) n → IsReached p → length rest ≡ 0 → p ≡ progress.Between v
-    → AreRules v.items × (text ≡ text_of (map written v.items))
-end-found text rest p v n r reached none is =
-    let k = good-end rules is-grammar text (map written v.items) n (subst (λ bs. IsRead rules text bs (Between (map written v.items)) n) (empty rest none) (subst (λ q. IsRead rules text rest (state_of q) n) is r)) in
-    let each = subst IsReached is reached in
-    (record { few = let f = k.0.few in let l = length-map v.items written in omega (arith, f, l); each = each }, k.1)
-
 pub end-fault : (text rest : List ℕ) (p : Progress) (n : ℕ) → IsRead rules text rest (state_of p) n → length rest ≡ 0 → ((v : Vec Rule Global) → p ≢ progress.Between v) → IsFirstBad IsRuleText text n
 end-fault text rest p n r none not = go p (subst (λ bs. IsRead rules text bs (state_of p) n) (empty rest none) r) not
   where

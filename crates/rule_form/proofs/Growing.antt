@@ -189,10 +189,6 @@ straight-so-far gs v h not = go (ends v) refl
     go true e = absurd (not (branching gs v h e))
     go false e = e
 
-one-count : (b : Bool) → (number (cond b 1 0) ≡ 0) ⊎ (number (cond b 1 0) ≡ 1)
-one-count true = inr refl
-one-count false = inl refl
-
 -- one more of what there may be once
 pub counts-on : {X : Type 0} (p : X → Bool) (v : List X) (i : X) → count_by p v ≤ 1 → (IsTrue (p i) → 0 < count_by p v → ⊥) → count_by p v + count_by p (i ∷ []) ≤ 1
 counts-on p v i most not = go (p i) refl

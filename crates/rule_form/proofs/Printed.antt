@@ -104,20 +104,6 @@ pub item-more : {A : Type 0} (f : A → Item) (new out start : List ℕ) (xs : L
 item-more f new out start xs i x at e is =
     line-more new out start (map f (take i xs)) (f x) e is ∙ ap (λ l. start ++ lines l) (sym (ap (map f) (take-more xs i x at) ∙ map-append f (take i xs) (x ∷ [])))
 
--- the lines of a window
-pub put-goal : (new a b c start : List ℕ) (t : Template) → new ≡ c ++ line_of (words_of (Dead t.dead)) → c ≡ b ++ line_of (words_of (At t.slots)) → b ≡ a ++ lines (map GuestLine t.guests) → a ≡ start ++ line_of (words_of Open)
-    → new ≡ start ++ lines (front_of t)
-put-goal new a b c start t e f g h =
-    let opening = line_of (words_of Open) in
-    let guests = lines (map GuestLine t.guests) in
-    let at = line_of (words_of (At t.slots)) in
-    let dead = line_of (words_of (Dead t.dead)) in
-    let parts : lines (front_of t) ≡ opening ++ (guests ++ (at ++ dead)) =
-    ap (λ l. opening ++ l) (lines-append (map GuestLine t.guests) (At t.slots ∷ Dead t.dead ∷ []) ∙ ap (λ l. guests ++ (at ++ l)) (append-nil dead)) in
-    e ∙ ap (λ l. l ++ dead) (f ∙ ap (λ l. l ++ at) (g ∙ ap (λ l. l ++ guests) h))
-    ∙ append_assoc ((start ++ opening) ++ guests) at dead ∙ append_assoc (start ++ opening) guests (at ++ dead) ∙ append_assoc start opening (guests ++ (at ++ dead))
-    ∙ ap (λ l. start ++ l) (sym parts)
-
 -- the lines of a rule
 pub put-rule : (new a b c d start : List ℕ) (r : RuleText) → new ≡ d ++ line_of (words_of End) → d ≡ c ++ lines (map Clause r.clauses) → c ≡ b ++ line_of (words_of (Take r.take)) → b ≡ a ++ lines (map Host r.lines)
     → a ≡ start ++ lines (front_of r.template) → new ≡ start ++ lines (opened r ++ End ∷ [])
@@ -140,15 +126,3 @@ put-rule new a b c d start r e f g h i =
     ∙ append_assoc (start ++ front) hosts (take ++ (clauses ++ end))
     ∙ append_assoc start front (hosts ++ (take ++ (clauses ++ end)))
     ∙ ap (λ l. start ++ l) (sym parts)
-
--- one more rule
-pub put-next : (new out : List ℕ) (rules : List Rule) (i : ℕ) (rule : Rule) → slice_get rules i ≡ Some rule → new ≡ out ++ lines (opened (written rule) ++ End ∷ []) → out ≡ text_of (map written (take i rules))
-    → new ≡ text_of (map written (take (i + 1) rules))
-put-next new out rules i rule at e is =
-    let whole : RuleText → List Item = λ r. opened r ++ End ∷ [] in
-    let before = map written (take i rules) in
-    let grown : map written (take (i + 1) rules) ≡ before ++ written rule ∷ [] = ap (map written) (take-more rules i rule at) ∙ map-append written (take i rules) (rule ∷ []) in
-    e ∙ ap (λ l. l ++ lines (whole (written rule))) is
-    ∙ sym (ap text_of grown
-    ∙ ap (λ xs. lines (Title ∷ xs)) (flat_map-append whole before (written rule ∷ []) ∙ ap (λ l. flat_map whole before ++ l) (append-nil (whole (written rule))))
-    ∙ lines-append (Title ∷ flat_map whole before) (whole (written rule)))

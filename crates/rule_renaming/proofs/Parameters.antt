@@ -17,9 +17,6 @@ is_in_slot slots p = get_or slots (p - 1) false
 abbrev pub slot_at : List Bool → ℕ → ℕ
 slot_at slots p = body_slot slots (p - 1)
 
-pub IsParameter : List Bool → ℕ → Type 0
-IsParameter slots p = is_parameter slots p ≡ true
-
 pub par_from : (slots : List Bool) (p : ℕ) → is_parameter slots p ≡ true → 1 ≤ p
 par_from slots p is = grind (arith, nat_tests)
 

@@ -58,9 +58,6 @@ in_all (true ∷ slots) (suc j) e = let r = in_all slots j e in let f = one_more
 in_all (false ∷ slots) zero e = absurd cc
 in_all (false ∷ slots) (suc j) e = let r = in_all slots j e in let f = none_more slots in let g = none_more (take j slots) in omega (arith, r, f, g)
 
-same_number : (x y : ℕ) → Some x ≡ Some y → x ≡ y
-same_number x y e = cc
-
 itself : (x : ℕ) → (x == x) ≡ true
 itself x = grind (arith, nat_tests)
 

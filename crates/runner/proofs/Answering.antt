@@ -167,12 +167,6 @@ listed_write m c (Read fd count) is d = absurd (true_not_false (sym (ap is_read 
 listed_write m c (Write fd bytes) is d = record { bytes = bytes; is = sym (ap (λ f. Write f bytes) d.file); count = sym d.count; stand = d.stand }
 listed_write m c (Close fd) is d = absurd (true_not_false (sym (ap is_close d.kind) ∙ ap is_close is))
 
-pub listed_close : (m : Memory) (c : Call) (listed : ListedCall) → c.kind ≡ kind.Close → Describes m c listed → listed ≡ Close c.fd
-unfolding is_close
-listed_close m c (Read fd count) is d = absurd (true_not_false (sym (ap is_close is) ∙ ap is_close d.kind))
-listed_close m c (Write fd bytes) is d = absurd (true_not_false (sym (ap is_close is) ∙ ap is_close d.kind))
-listed_close m c (Close fd) is d = sym (ap Close d.file)
-
 pub within : (fd : ℕ) → fd ≤ 2 → leb fd 2 ≡ true
 within fd le = grind arith
 

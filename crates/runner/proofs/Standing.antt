@@ -29,11 +29,6 @@ waits phase (Ended e) is = ap is_waiting is
 buffered : (m : Memory) (c : Call) → KeepsBuffer c m → IsHeld m c
 buffered m c has = λ is. subst (λ (k : CallKind). has_right k m c.at c.count) is has
 
-pub kept_buffer : (m : Memory) (event : Event) → IsReady (phase_of event) m → HasBuffer m event
-kept_buffer m Went ready = tt
-kept_buffer m (Asked c) ready = buffered m c ready
-kept_buffer m (Ended e) ready = tt
-
 described_as : (p : Program) (f : ℕ → ℕ) (m : Memory) (c : Call) (k : CallKind) → c.kind ≡ k → Keeps p f m → IsHeld m c → Describes m c (listed_as k c.fd c.at c.count f)
 described_as p f m c kind.Read is keeps held = record { kind = is; file = refl; count = refl }
 described_as p f m c kind.Write is keeps held = described_write p f m c keeps is (held is)

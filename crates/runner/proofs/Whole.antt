@@ -83,10 +83,6 @@ none_of : (n before now : ℕ) → RoseBy n before now → (Rose before now → 
 none_of zero before now rose calm = refl
 none_of (suc n) before now rose calm = absurd (calm (omega (arith, rose)))
 
-whole_by : (x : Extent) → is_faulted x ≡ false → x ≡ Full
-whole_by Full none = refl
-whole_by (Faulted k) none = absurd (grind arith)
-
 -- a transfer that is counted on no stream
 calm_one : (stream : Stream) (x : Extent) → one_if (is_same Input stream && is_faulted x) ≡ 0 → one_if (is_same Output stream && is_faulted x) ≡ 0 → one_if (is_same Errors stream && is_faulted x) ≡ 0 → x ≡ Full
 calm_one stream Full i o e = refl

@@ -2,7 +2,7 @@
 use Rattle.std.proofs.Common.{◌≡◌, ◌≢◌, ℕ, ◌+◌, ◌<◌, ◌≤◌, ◌⊎◌, inl, inr, Bool, true, false, Option, Some, None, refl, sym, ap, ◌∙◌, arith}
 use Rattle.machines.specs.Prelude.{Map, Rights, Core}
 use Rattle.reg_map.specs.Prelude.{home, home_size, slot_of, IsHomePage}
-use Rattle.machines.proofs.Homes.{homes_apart}
+use Rattle.reg_map.proofs.Homes.{homes_apart}
 use Rattle.symbolic_tiles.specs.Prelude.{GoesThrough, IsUnowned, LoadsKeepMemory}
 use Rattle.symbolic_tiles.proofs.Places.{home_within}
 

@@ -5,7 +5,7 @@ use Rattle.std.proofs.lemmas.Bool.Decides.{nat_tests}
 use Rattle.machines.specs.Prelude.{Map, IsMap, IsHeld, load, each_byte, Rights, Core, Place, Register, value_at, put_at, reads, puts}
 use Rattle.reg_map.specs.Prelude.{home, home_size, slot_of, holds, in_slot, location_place, IsHomePage}
 use Rattle.machines.specs.Host.{Memory}
-use Rattle.machines.proofs.Homes.{homes_apart}
+use Rattle.reg_map.proofs.Homes.{homes_apart}
 use Rattle.symbolic_tiles.specs.Prelude.{IsFree, IsUnowned}
 use Rattle.symbolic_tiles.proofs.Memory.{update_same, update_other, store_other, load_store, load_apart}
 

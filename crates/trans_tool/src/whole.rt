@@ -1,8 +1,8 @@
 //! A whole file, up to a limit.
 
 ghost use Rattle.std.specs.Prelude.{◌≡◌, ◌<◌, ◌≤◌, ◌+◌, ◌^◌, Some, length, IsTrue, IfOk, IsErrOf};
-ghost use Rattle.outside.specs.Files.{Stands};
-ghost use Rattle.trans_tool.specs.Whole.{IsLonger, HasReadCause};
+ghost use Rattle.outside.specs.Files.{Stands, HasFileCause};
+ghost use Rattle.trans_tool.specs.Whole.{IsLonger};
 
 use outside::{FileFault, Files};
 
@@ -22,7 +22,7 @@ pub fn read_whole<F: Files>(files: &mut F, name: &str, most: usize) -> Result<Ve
     ensures bound { IfOk result (λ v. length v.items ≤ most) }
     ensures long { IsErrOf result ReadFault.TooLong → IsTrue (F.tells files.old) → IsLonger most (F.held files.old name.now) }
     ensures stands { Stands (F.tells files.old) (F.tells files.new) (F.held files.old) (F.held files.new) }
-    ensures cause { HasReadCause (F.read_faults files.old) (F.read_faults files.new) (F.replace_faults files.old) (F.replace_faults files.new) name.now result }
+    ensures cause { HasFileCause ReadFault.Failed (F.read_faults files.old) (F.read_faults files.new) (F.replace_faults files.old) (F.replace_faults files.new) name.now result }
 {
     match files.read(name, most + 1) {
         Ok(bytes) if bytes.len() <= most => Ok(bytes),

@@ -7,10 +7,10 @@ use Rattle.machines.specs.Prelude.{Program, IsMap, load, update, first_bytes, st
 use Rattle.elf_load.specs.Prelude.{IsArea}
 use Rattle.reg_map.specs.Prelude.{home, home_size, location_range}
 use Rattle.code_layout.specs.Prelude.{no_registers}
-use Rattle.elf_emit.specs.Prelude.{home_page}
+use Rattle.elf_emit.specs.Prelude.{home_page, as_data, home_segment, table_segment, code_segment, written_segments}
 use Rattle.simulation.specs.Prelude.{MatchesState}
 use Rattle.upkeep.specs.Loaded.{AreBytes, HaveBytes}
-use Rattle.upkeep.specs.Written.{as_data, home_segment, table_segment, code_segment, written_segments, WrittenHasBytes, WrittenStarts}
+use Rattle.upkeep.specs.Written.{WrittenHasBytes, WrittenStarts}
 use Rattle.upkeep.proofs.Memory.{byte_in_front, byte_behind, first_byte}
 use Rattle.upkeep.proofs.Page.{page_bytes, page_first, page_stack, page_zero}
 use Rattle.upkeep.proofs.InPlace.{off_source, at_home}
@@ -52,7 +52,7 @@ zero_in_range x = grind (arith, nat_tests)
 
 module _ (P : Program) (area : ℕ) (table code : List ℕ) (free : IsArea P.segments area) where
   abbrev bytes : ℕ → ℕ
-  bytes = first_bytes (written_segments P area table code)
+  bytes = first_bytes (written_segments P.segments area table code)
 
   page_byte : (i : ℕ) → i < 4096 → bytes ((area + i) % 2 ^ 32) ≡ get_or home_page i 0
   unfolding first_bytes
@@ -118,7 +118,7 @@ has_bytes P Q area table code is source in_table in_code = subst HaveBytes (sym 
 pub starts : WrittenStarts
 starts P Q area table code s choices free is are set =
     let core : Core = (host_start Q choices).core in
-    let bytes_are : core.bytes ≡ first_bytes (written_segments P area table code) = ap first_bytes is.segments in
+    let bytes_are : core.bytes ≡ first_bytes (written_segments P.segments area table code) = ap first_bytes is.segments in
     let shown : (x : ℕ) → x < 46 → load (home_size x) (s.area + home x) core.bytes ≡ update (λ y. 0) 1 stack_start x =
     λ x lt. ap (λ n. load (home_size x) (n + home x) core.bytes) set.area_is ∙ ap (λ f. load (home_size x) (area + home x) f) bytes_are ∙ at_start P area table code free x lt in
     let matches : MatchesState s no_registers (guest_start P) core = record {

@@ -9,14 +9,14 @@ use Rattle.elf_load.specs.Prelude.{IsArea}
 use Rattle.reg_map.specs.Prelude.{IsHomePage, HasSegments}
 use Rattle.machines.proofs.Tests.{both}
 use Rattle.symbolic_tiles.proofs.PlaceLaws.{programs_write_held}
-use Rattle.elf_emit.specs.Prelude.{home_page}
-use Rattle.upkeep.specs.Written.{as_data, home_segment, table_segment, code_segment, written_segments, IsWritten, narrow_rights, host_code, WrittenIsInPlace}
+use Rattle.elf_emit.specs.Prelude.{home_page, as_data, home_segment, table_segment, code_segment, written_segments}
+use Rattle.upkeep.specs.Written.{IsWritten, narrow_rights, host_code, WrittenIsInPlace}
 use Rattle.upkeep.proofs.Page.{page_length}
 use Rattle.upkeep.proofs.Memory.{within, from_within, not_true, held_in_front, held_behind, writable_in_front, writable_behind, byte_behind, free_of}
 
 module _ (P : Program) (area : ℕ) (table code : List ℕ) where
   abbrev all : List Segment
-  all = written_segments P area table code
+  all = written_segments P.segments area table code
 
   abbrev behind : List Segment
   behind = home_segment area ∷ table_segment area table ∷ code_segment area code ∷ []
@@ -132,26 +132,26 @@ module _ (P : Program) (area : ℕ) (table code : List ℕ) where
       }
 
 -- the code segment is the last
-last_here : (P : Program) (area : ℕ) (table code : List ℕ) → slice_get (written_segments P area table code) (length P.segments + 2) ≡ Some (code_segment area code)
+last_here : (P : Program) (area : ℕ) (table code : List ℕ) → slice_get (written_segments P.segments area table code) (length P.segments + 2) ≡ Some (code_segment area code)
 last_here P area table code =
     let long = length-map P.segments as_data in
     let all = length-append (map as_data P.segments) (home_segment area ∷ table_segment area table ∷ code_segment area code ∷ []) in
-    let last : get_or (written_segments P area table code) (length (map as_data P.segments) + 2) (home_segment area) ≡ code_segment area code =
+    let last : get_or (written_segments P.segments area table code) (length (map as_data P.segments) + 2) (home_segment area) ≡ code_segment area code =
     get_or-append-add (map as_data P.segments) (home_segment area ∷ table_segment area table ∷ code_segment area code ∷ []) 2 (home_segment area) in
-    slice_get-get_or (written_segments P area table code) (length P.segments + 2) (home_segment area) (omega (arith, long, all))
-    ∙ ap (λ (s : Segment). Some s) (ap (λ n. get_or (written_segments P area table code) (n + 2) (home_segment area)) (sym long) ∙ last)
+    slice_get-get_or (written_segments P.segments area table code) (length P.segments + 2) (home_segment area) (omega (arith, long, all))
+    ∙ ap (λ (s : Segment). Some s) (ap (λ n. get_or (written_segments P.segments area table code) (n + 2) (home_segment area)) (sym long) ∙ last)
 
 module _ (P Q : Program) (area : ℕ) (table code : List ℕ) (is : IsWritten P area table code Q) where
   pub code_is : code_of Q ≡ host_code area code
   code_is =
       ap (λ ss. code_in (slice_get ss Q.code)) is.segments
-      ∙ ap (λ n. code_in (slice_get (written_segments P area table code) n)) is.place
+      ∙ ap (λ n. code_in (slice_get (written_segments P.segments area table code) n)) is.place
       ∙ ap code_in (last_here P area table code)
 
   rights_are : host P area table code ≡ narrow_rights Q
   rights_are = sym (
       ap (λ (ss : List Segment). without (code_of Q) (record { held = is_held ss; writable = is_writable ss })) is.segments
-      ∙ ap (λ (c : Code). without c (record { held = is_held (written_segments P area table code); writable = is_writable (written_segments P area table code) })) code_is)
+      ∙ ap (λ (c : Code). without c (record { held = is_held (written_segments P.segments area table code); writable = is_writable (written_segments P.segments area table code) })) code_is)
 
 pub in_place : WrittenIsInPlace
 in_place P Q area table code free is = record {

@@ -6,7 +6,7 @@ use Rattle.machines.specs.Prelude.{Segment, is_within, is_held, is_writable, fir
 use Rattle.elf_load.specs.Prelude.{MeetsArea}
 use Rattle.machines.proofs.Tests.{both, first_of_both, second_of_both, below, is_below, upto, is_upto}
 use Rattle.upkeep.specs.Loaded.{AreBytes, HaveBytes}
-use Rattle.upkeep.specs.Written.{as_data}
+use Rattle.elf_emit.specs.Prelude.{as_data}
 
 pub within : (at count a : ℕ) → at ≤ a → a < at + count → is_within at count a ≡ true
 within at count a low high = both (leb at a) (ltb a (at + count)) (is_upto at a low) (is_below a (at + count) high)

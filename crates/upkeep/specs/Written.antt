@@ -4,30 +4,13 @@ use Rattle.machines.specs.Prelude.{Program, Segment, Rights, Code, rights_of, co
 use Rattle.elf_load.specs.Prelude.{IsArea}
 use Rattle.reg_map.specs.Prelude.{IsHomePage, HasSegments}
 use Rattle.symbolic_tiles.specs.Prelude.{WritesHeld}
-use Rattle.elf_emit.specs.Prelude.{home_page}
+use Rattle.elf_emit.specs.Prelude.{written_segments}
 use Rattle.simulation.specs.Prelude.{SimulationContext, Starts}
 use Rattle.upkeep.specs.Loaded.{AreBytes, HaveBytes}
 
--- a segment of the source in the written file: nothing of it is run
-abbrev pub as_data : Segment → Segment
-as_data s = record { at = s.at; write = s.write; exec = false; bytes = s.bytes }
-
-abbrev pub home_segment : ℕ → Segment
-home_segment area = record { at = area; write = true; exec = false; bytes = home_page }
-
-abbrev pub table_segment : ℕ → List ℕ → Segment
-table_segment area table = record { at = area + 0x1000; write = false; exec = false; bytes = table }
-
-abbrev pub code_segment : ℕ → List ℕ → Segment
-code_segment area code = record { at = area + 0x81000; write = false; exec = true; bytes = code }
-
--- in the order of the headers: the source's, its stack last, then home, table and code in the host area
-abbrev pub written_segments : Program → ℕ → List ℕ → List ℕ → List Segment
-written_segments P area table code = map as_data P.segments ++ (home_segment area ∷ table_segment area table ∷ code_segment area code ∷ [])
-
 -- Q has what is written for P with these bytes of table and code. The table ends before the code, and the code in the area.
 pub record IsWritten (P : Program) (area : ℕ) (table code : List ℕ) (Q : Program) : Type 0 where
-  pub segments : Q.segments ≡ written_segments P area table code
+  pub segments : Q.segments ≡ written_segments P.segments area table code
   pub place : Q.code ≡ length P.segments + 2
   pub table_fits : length table ≤ 0x80000
   pub code_fits : 0x81000 + length code ≤ 0x0A000000

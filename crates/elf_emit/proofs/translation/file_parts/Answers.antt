@@ -1,7 +1,7 @@
 use Rattle.std.proofs.Common.{rules, ◌≡◌, ◌<◌, ◌*◌, ◌∙◌, List, length, refl, subst, sym, ap}
 use Rattle.space.specs.declared.program.Segment.{Segment}
 use Rattle.std.specs.List.{All}
-use Rattle.elf_emit.specs.Prelude.{home, table, ops}
+use Rattle.elf_emit.specs.Prelude.{home_segment, table_segment, table_bytes, code_segment}
 use Rattle.elf_emit.proofs.Loadable.{length_home_page, length_of_table}
 use Rattle.elf_emit.proofs.WholeFile.{segments_short, is_whole, parts_of_file}
 use Rattle.elf_emit.proofs.translation.file_parts.Goals as goal
@@ -22,6 +22,6 @@ returns c =
     let area = c.args.area in
     parts_of_file program code area c.in_ok-parts.parts.items c.push.new.self.items c.push-2.new.self.items c.push-3.new.self.items _ _ _
     (c.in_ok-parts.ensures ∙ search rules) c.in_ok-push.ensures.items c.in_ok-push-2.ensures.items c.in_ok-push-3.ensures.items
-    (is_whole _ _ _ _ _ (home area) refl (sym length_home_page) refl refl (search rules))
-    (is_whole _ _ _ _ _ (table code area) refl (search rules) refl refl (search rules))
-    (is_whole _ _ _ _ _ (ops code area) refl (search rules) refl refl (search rules))
+    (is_whole _ _ _ _ _ (home_segment area) refl (sym length_home_page) refl refl (search rules))
+    (is_whole _ _ _ _ _ (table_segment area (table_bytes code)) refl (search rules) refl refl (search rules))
+    (is_whole _ _ _ _ _ (code_segment area code.bytes) refl (search rules) refl refl (search rules))
