@@ -4,7 +4,7 @@ ghost use Rattle.std.specs.Prelude.{ℕ, List, Option};
 ghost use Rattle.outside.specs.Causes.{HasCause};
 ghost use Rattle.outside.specs.Streams.{PutsAll};
 ghost use Rattle.ppc_isa.specs.declared.instr.Instr.{Instr};
-ghost use Rattle.ppc_isa.specs.Legal.{IsReading as ReadsWords};
+ghost use Rattle.ppc_isa.specs.Legal.{ReadsWords};
 ghost use Rattle.ia_codec.specs.declared.op.Op.{Op};
 ghost use Rattle.ia_codec.specs.Prelude.{IsReading as ReadsOps};
 ghost use Rattle.listing.specs.Listing.{HasCode, text_of};

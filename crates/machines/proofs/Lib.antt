@@ -1,10 +1,8 @@
 pub mod Steps
 pub mod Traces
 pub mod Small
-pub mod OneReading
 pub mod Tests
-pub mod WordReading
-pub mod OpReading
+pub mod Readings
 pub mod Stack
 pub mod Calls
 pub mod Choices

@@ -23,9 +23,6 @@ is_equal a b h = grind (arith, nat_tests)
 pub unequal : (a b : ℕ) → not (eqb a b) ≡ true → a ≢ b
 unequal a b h = grind (arith, nat_tests)
 
-pub is_unequal : (a b : ℕ) → a ≢ b → not (eqb a b) ≡ true
-is_unequal a b h = grind (arith, nat_tests)
-
 pub below : (a b : ℕ) → ltb a b ≡ true → a < b
 below a b h = grind (arith, nat_tests)
 

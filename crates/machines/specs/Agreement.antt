@@ -7,7 +7,8 @@ use Rattle.ia_codec.specs.declared.op.Op.{Op}
 use Rattle.ia_codec.specs.declared.op.Op.TheVariants.{AluTo, AluFrom, AluImm, TestReg, TestImm, Unary, Imul, MovTo, MovFrom, MovImm, MovToImm, MovHalfTo, MovByteTo, MovByteFrom, Shift, ShiftByCl, Lea, Extend, Bswap, Set, Cmov, Bsr, Cdq, Jcc, Jmp, JmpTo, Int80, Int3, Ud2}
 use Rattle.ia_codec.specs.Prelude.{eax, ecx, edx}
 use Rattle.machines.specs.Memory.{each_byte, Rights, rights_of, Code, is_code, code_of}
-use Rattle.machines.specs.Readings.{ReadsWords, Fetched, ReadsOps}
+use Rattle.ppc_isa.specs.Legal.{ReadsWords}
+use Rattle.machines.specs.Readings.{Fetched, ReadsOps}
 use Rattle.machines.specs.Guest.{guest_machine, guest_start}
 use Rattle.machines.specs.Host.{Choice, Core, Host, Place, Register, Memory, place_of, extend_size, op_bytes, host_step, host_machine, host_start}
 

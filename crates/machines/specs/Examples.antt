@@ -7,7 +7,7 @@ use Rattle.space.specs.declared.call.End.{End}
 use Rattle.space.specs.declared.call.End.TheVariants.{Running, Exit, Outside, Dry}
 use Rattle.space.specs.Reports.{Read, Write, AnswerValue, Got, Took, Error, Report, ended, listed}
 use Rattle.ppc_isa.specs.declared.instr.Instr.{Instr}
-use Rattle.machines.specs.Readings.{ReadsWords}
+use Rattle.ppc_isa.specs.Legal.{ReadsWords}
 use Rattle.machines.specs.Guest.{guest_run}
 
 -- the bytes of words, each with its highest byte first

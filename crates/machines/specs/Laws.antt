@@ -4,7 +4,8 @@ use Rattle.space.specs.declared.program.Program.{Program}
 use Rattle.space.specs.declared.call.End.TheVariants.{Running}
 use Rattle.space.specs.Reports.{ListedCall, AnswerValue}
 use Rattle.ppc_isa.specs.declared.instr.Instr.{Instr}
-use Rattle.machines.specs.Readings.{ReadsWords, Fetched, ReadsOps}
+use Rattle.ppc_isa.specs.Legal.{ReadsWords}
+use Rattle.machines.specs.Readings.{Fetched, ReadsOps}
 use Rattle.machines.specs.Guest.{guest_run}
 use Rattle.machines.specs.Host.{Choice, choice_at, host_run}
 

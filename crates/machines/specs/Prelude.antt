@@ -64,7 +64,7 @@ pub use Rattle.ppc_isa.specs.declared.instr.StoreUpdateOp.TheVariants.{Stbu, Sth
 pub use Rattle.ppc_isa.specs.declared.locs.Locs.{Locs}
 pub use Rattle.ppc_isa.specs.declared.map.Map.{Map}
 pub use Rattle.ppc_isa.specs.Word.{Field, Fit, word}
-pub use Rattle.ppc_isa.specs.Legal.{Allowed, HasOneInstruction, IsLegal, IsSpr, IsWordOf, bo_0, bo_2, layout}
+pub use Rattle.ppc_isa.specs.Legal.{Allowed, HasOneInstruction, IsLegal, IsSpr, IsWordOf, ReadsWords, bo_0, bo_2, layout}
 pub use Rattle.ppc_isa.specs.Locations.{IsSetOf, carry_in, carry_out, chosen_of, condition, count, cr, immediate_carries, immediate_operand, immediate_records, locations_read, locations_written, logic_carries, logic_immediate_records, ov, rotate_operands, special, target_of, unary_carry, when, xc}
 unfoldable pub use Rattle.ppc_isa.specs.Locations.{chosen_fields, registers_from}
 pub use Rattle.ppc_isa.specs.Map.{IsHeld, IsMap}
@@ -113,7 +113,7 @@ pub use Rattle.ia_codec.specs.Rows.{alu_row, host_row, test_row, unary_row}
 pub use Rattle.ia_codec.specs.Registers.{eax, ebx, ecx, edi, edx, esi}
 pub use Rattle.machines.specs.Memory.{Code, Rights, code_byte, code_in, code_of, is_code, is_within, rights_of, update}
 unfoldable pub use Rattle.machines.specs.Memory.{block, each_byte, first_bytes, is_held, is_writable, load, load_big, put_block, store, store_big}
-pub use Rattle.machines.specs.Readings.{Fetched, ReadsOps, ReadsWords}
+pub use Rattle.machines.specs.Readings.{Fetched, ReadsOps}
 pub use Rattle.machines.specs.Guest.{Guest, after_guest_call, at_next, behind, branch_target, branches, compare_word, cr_word, ctr, effect_of, guest_acts, guest_asks, guest_executes, guest_machine, guest_start, guest_system_call, guest_values, immediate_word, is_code_word, linked, load_outcome, loaded_by, loaded_in, logic_word, lr, put_cr, put_loaded, put_special, put_xer, puts_cr, puts_xer, register_target, results, rotate_register, stack_start, store_outcome, value_a, value_b, value_s, with_so, without_so, word_at, writes, xer_word}
 unfoldable pub use Rattle.machines.specs.Guest.{store_registers}
 pub use Rattle.machines.specs.Host.{Choice, Core, Host, Place, Register, address_in, after_host_call, bind, byte_for, changes, choice_at, chosen_flags, chosen_word, divides, does, extend_size, faults_on, gives_to, goes_to, has_result, host_acts, host_asks, host_executes, host_machine, host_start, host_step, host_system_call, host_values, jumps, jumps_to, leaves, multiplies, no_choice, op_bytes, place_of, plain, put_at, puts, puts_both, reads, sets, sets_byte, unary_acts, unary_does, value_at}

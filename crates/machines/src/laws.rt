@@ -9,7 +9,7 @@ ghost use Rattle.ia_codec.specs.Prelude.{spelling, IsInProfile};
 ghost use Rattle.ia_codec.specs.declared.op.Op.{Op};
 
 use ia_codec::one_spelling;
-use ppc_isa::one_instruction;
+use ppc_isa::{one_instruction, one_reading};
 use runs::{agrees_in_larger, keeps_calls, stays_over};
 use std::marker::Brand;
 
@@ -45,13 +45,18 @@ pub fn host_keeps_calls()
 pub fn readings_are_one()
     ensures words { HaveOneWordReading }
     ensures ops { HaveOneOpReading }
-{}
+{
+    one_reading();
+}
 
 /// There is a reading of words, and one of bytes.
 pub fn readings_exist()
     ensures words { HasWordReading }
     ensures ops { HasOpReading }
-{}
+{
+    one_reading();
+    ia_codec::one_reading();
+}
 
 /// A host run doesn't depend on choices past those of its steps.
 pub fn host_uses_first_choices()

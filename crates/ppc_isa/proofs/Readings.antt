@@ -1,12 +1,17 @@
 -- Readings of words: what the opcodes name, where the word is that instruction's.
-use Rattle.std.proofs.Common.{◌≡◌, ◌≢◌, ℕ, ◌<◌, ◌^◌, ◌⊎◌, List, [], ◌∷◌, Option, Some, None, IfSome, refl, sym, inl, inr, arith}
+use Rattle.std.proofs.Common.{◌≡◌, ◌≢◌, ℕ, ◌<◌, ◌^◌, ◌⊎◌, List, [], ◌∷◌, Option, Some, None, IfSome, refl, sym, subst, inl, inr, arith}
 use Rattle.std.proofs.lemmas.Bool.{cases_lt}
 use Rattle.std.proofs.lemmas.Bool.Decides.{eqb_tells}
 use Rattle.ppc_isa.specs.Word.{Field, Fit, word}
-use Rattle.ppc_isa.specs.Legal.{layout, Allowed, IsSpr, IsWordOf, IsReading, bo_2}
+use Rattle.ppc_isa.specs.Legal.{layout, Allowed, IsSpr, IsWordOf, ReadsWords, bo_2}
 use Rattle.ppc_isa.specs.Reading.{read}
 use Rattle.ppc_isa.specs.Instruction.{Instr, LoadUpdate, StoreUpdate, LoadIndexedUpdate, StoreIndexedUpdate, Multiple, Lmw, MoveFromSpr, MoveToSpr, BranchRegister, Bcctr}
 use Rattle.ppc_isa.proofs.ReadWords.{read_legal}
+
+-- what a reading gives, if any
+pub if_found : (w : ℕ) (r : Option Instr) → ((i : Instr) → r ≡ Some i → IsWordOf w i) → IfSome r (λ i. IsWordOf w i)
+if_found w None h = tt
+if_found w (Some i) h = h i refl
 
 -- two readings agree at a word
 pub same : (w : ℕ) (a b : Option Instr) → IfSome a (λ i. IsWordOf w i) → IfSome b (λ i. IsWordOf w i) → ((i : Instr) → IsWordOf w i → a ≡ Some i) → ((i : Instr) → IsWordOf w i → b ≡ Some i) → a ≡ b
@@ -88,5 +93,8 @@ kept_only : (w : ℕ) (i : Instr) → IsWordOf w i → kept w (read w) ≡ Some 
 unfolding kept
 kept_only w i l = rw (read_legal w i l) (keep_only w i (is_word w i) l)
 
-pub a_reading : (f : ℕ → Option Instr) × IsReading f
-a_reading = ((λ w. kept w (read w)), record { found = λ w. kept_found w (read w); only = kept_only })
+some_of : (w : ℕ) (r : Option Instr) (i : Instr) → IfSome r (λ j. IsWordOf w j) → r ≡ Some i → IsWordOf w i
+some_of w r i h e = subst (λ (x : Option Instr). IfSome x (λ j. IsWordOf w j)) e h
+
+pub a_reading : (f : ℕ → Option Instr) × ReadsWords f
+a_reading = ((λ w. kept w (read w)), record { found = λ w i e. some_of w (kept w (read w)) i (kept_found w (read w)) e; only = kept_only })

@@ -227,6 +227,6 @@ abbrev pub HasOneInstruction : ℕ → Type 0
 HasOneInstruction w = (i j : Instr) → IsWordOf w i → IsWordOf w j → i ≡ j
 
 -- The function gives the instruction of each legal word, and None at every other number.
-pub record IsReading (read : ℕ → Option Instr) : Type 0 where
-  pub found : (w : ℕ) → IfSome (read w) (λ i. IsWordOf w i)
-  pub only : (w : ℕ) (i : Instr) → IsWordOf w i → read w ≡ Some i
+pub record ReadsWords (reading : ℕ → Option Instr) : Type 0 where
+  pub found : (w : ℕ) (i : Instr) → reading w ≡ Some i → IsWordOf w i
+  pub only : (w : ℕ) (i : Instr) → IsWordOf w i → reading w ≡ Some i

@@ -1,7 +1,7 @@
 //! From words to instructions: the opcodes name an instruction, and the word is legal where it is that instruction's.
 
 ghost use Rattle.std.specs.Prelude.{ℕ, ◌≡◌, ◌+◌, ◌*◌, ◌<◌, ◌≤◌, ◌^◌, ◌==◌, ◌↔◌, IsTrue, IfSome, Option, Some};
-ghost use Rattle.ppc_isa.specs.Legal.{layout, Allowed, IsSpr, IsWordOf, IsReading};
+ghost use Rattle.ppc_isa.specs.Legal.{layout, Allowed, IsSpr, IsWordOf, ReadsWords};
 ghost use Rattle.ppc_isa.specs.declared.instr.Instr.{Instr};
 ghost use Rattle.ppc_isa.specs.Word.{Fit};
 ghost use Rattle.ppc_isa.specs.Reading.{cut, is_one, read, read_31, read_19};
@@ -565,7 +565,7 @@ fn is_word_of(instr: &Instr, word: u32) -> bool
 pub fn decode(word: u32) -> Option<Instr>
     ensures found { IfSome result (λ i. IsWordOf word i) }
     ensures only { (i : Instr) → IsWordOf word i → result ≡ Some i }
-    ensures reading { (read : ℕ → Option Instr) → IsReading read → result ≡ read word }
+    ensures reading { (read : ℕ → Option Instr) → ReadsWords read → result ≡ read word }
 {
     match candidate(word) {
         Some(instr) if is_word_of(&instr, word) => Some(instr),

@@ -1,7 +1,7 @@
 //! What holds of the legal words as a whole.
 
 ghost use Rattle.std.specs.Prelude.{ℕ, ◌≡◌, Option};
-ghost use Rattle.ppc_isa.specs.Legal.{HasOneInstruction, IsReading};
+ghost use Rattle.ppc_isa.specs.Legal.{HasOneInstruction, ReadsWords};
 ghost use Rattle.ppc_isa.specs.declared.instr.Instr.{Instr};
 ghost use Rattle.ppc_isa.specs.Examples.{SumsCompute, LogicCompute, ShiftsCompute, RotatesCompute, ProductsCompute, ComparesCompute, FieldsCompute, AccessesCompute, BranchesCompute, TrapsCompute};
 
@@ -12,8 +12,8 @@ pub fn one_instruction()
 
 /// There is a reading of words, and any two agree. So a definition may speak of any reading.
 pub fn one_reading()
-    ensures exists { (read : ℕ → Option Instr) × IsReading read }
-    ensures agree { (f g : ℕ → Option Instr) → IsReading f → IsReading g → (w : ℕ) → f w ≡ g w }
+    ensures exists { (read : ℕ → Option Instr) × ReadsWords read }
+    ensures agree { (f g : ℕ → Option Instr) → ReadsWords f → ReadsWords g → (w : ℕ) → f w ≡ g w }
 {}
 
 /// The rows of the definition compute these examples, which are worked out or measured elsewhere.

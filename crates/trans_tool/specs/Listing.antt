@@ -4,7 +4,7 @@ use Rattle.std.specs.Io.KnownBytes.{Appends}
 use Rattle.machines.specs.Prelude.{Kind, PowerPc, Ia32, Program, Instr, Op}
 use Rattle.elf_load.specs.Prelude.{IsProgramOf, IsFirstFault}
 use Rattle.elf_load.specs.declared.refusal.ElfRefusal.{ElfRefusal}
-use Rattle.ppc_isa.specs.Legal.{IsReading as ReadsWords}
+use Rattle.ppc_isa.specs.Legal.{ReadsWords}
 use Rattle.ia_codec.specs.Spelling.{IsReading as ReadsOps}
 use Rattle.listing.specs.Listing.{text_of}
 use Rattle.outside.specs.Causes.{Rose}
