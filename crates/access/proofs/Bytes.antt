@@ -3,6 +3,7 @@ use Rattle.std.proofs.Common.{◌≡◌, ℕ, zero, suc, ◌+◌, ◌*◌, ◌/�
 use Rattle.std.proofs.Math.Nat.{pow-suc, pow-succ', div-div-eq-div-mul}
 use Rattle.std.proofs.lemmas.Bool.{cases_lt, false_from_ne_true}
 use Rattle.machines.specs.Prelude.{update, load, store, load_big, store_big, block, put_block, each_byte}
+use Rattle.machines.proofs.Stack.{each_true as each_of}
 
 both_true : (x y : Bool) → (x && y) ≡ true → (x ≡ true) × (y ≡ true)
 both_true true true h = (refl, refl)
@@ -19,14 +20,6 @@ each_at test (suc n) a zero h lt =
 each_at test (suc n) a (suc k) h lt =
     let e : a + 1 + k ≡ a + suc k = omega arith in
     subst (λ x. test (x % 2 ^ 32) ≡ true) e (each_at test n (a + 1) k (both_true (test (a % 2 ^ 32)) (each_byte test n (a + 1)) h).1 (omega arith))
-
-pub each_of : (test : ℕ → Bool) (n a : ℕ) → ((k : ℕ) → k < n → test ((a + k) % 2 ^ 32) ≡ true) → each_byte test n a ≡ true
-unfolding each_byte
-each_of test zero a h = refl
-each_of test (suc n) a h =
-    let here : test (a % 2 ^ 32) ≡ true = subst (λ x. test (x % 2 ^ 32) ≡ true) (let e : a + 0 ≡ a = omega arith in e) (h 0 (omega arith)) in
-    let rest = each_of test n (a + 1) (λ k lt. subst (λ x. test (x % 2 ^ 32) ≡ true) (let e : a + (k + 1) ≡ a + 1 + k = omega arith in e) (h (k + 1) (omega arith))) in
-    simp (here, rest)
 
 -- one that fails fails the run
 pub each_fails : (test : ℕ → Bool) (n a k : ℕ) → k < n → test ((a + k) % 2 ^ 32) ≡ false → each_byte test n a ≡ false

@@ -10,7 +10,8 @@ use Rattle.space.specs.Memory.{Memory, AreApart, byte_at}
 use Rattle.space.proofs.Changes.{byte_in, byte_stands, bytes_stay, same_rights, code_is_kept}
 use Rattle.space.proofs.Written.{still_apart}
 use Rattle.access.specs.Kept.{Keeps, HasClosedCode, is_allowed}
-use Rattle.access.proofs.Bytes.{each_at, each_of, is_block}
+use Rattle.access.proofs.Bytes.{each_at, is_block}
+use Rattle.machines.proofs.Stack.{each_true as each_of}
 
 is_equal : (a b : ℕ) → a ≡ b → eqb a b ≡ true
 is_equal a b h = grind (arith, nat_tests)

@@ -8,7 +8,7 @@ use Rattle.symbolic_tiles.specs.Prelude.{AreWellFormed, SymbolicState, execute_o
 use Rattle.base_mem.specs.Addresses.{immediate_address}
 use Rattle.base_mem.specs.Multiple.{one_load, lmw_ops, one_store, stmw_ops}
 use Rattle.symbolic_tiles.proofs.Memory.{update_same, update_other, store_same}
-use Rattle.symbolic_tiles.proofs.Places.{each_of}
+use Rattle.machines.proofs.Stack.{each_true as each_of}
 use Rattle.symbolic_tiles.proofs.Shows.{bytes_held}
 use Rattle.symbolic_tiles.proofs.Done.{state_of, IsStateOf}
 use Rattle.symbolic_tiles.proofs.TileOf.{ops_are_tile, then_more}

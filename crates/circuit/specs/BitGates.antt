@@ -2,8 +2,7 @@
 use Rattle.std.specs.Prelude.{ℕ, Bool, cond, not, ◌&&◌, ◌||◌}
 use Rattle.word_kit.specs.Prelude.{same}
 use Rattle.circuit.specs.Literals.{lit_truth, lit_reach}
-use Rattle.circuit.specs.declared.words.BitGate.{BitGate}
-use Rattle.circuit.specs.declared.words.BitGate.TheVariants.{Both, Either, Differ, Choice}
+use Rattle.circuit.specs.Types.{BitGate, Both, Either, Differ, Choice}
 
 abbrev pub gate_truth : BitGate → (ℕ → Bool) → Bool → Bool → Bool
 gate_truth Both v b c = b && c

@@ -2,8 +2,7 @@
 use Rattle.std.specs.Prelude.{◌≡◌, ◌↔◌, ℕ, ◌+◌, Bool, true, false, IsTrue, cond, List, [], ◌∷◌, ◌++◌, Option, None, Some, slice_get, ℤ, pos, neg_ℤ}
 use Rattle.std.specs.List.{Any}
 use Rattle.word_kit.specs.Prelude.{variable, Satisfies}
-use Rattle.circuit.specs.declared.nodes.Node.{Node}
-use Rattle.circuit.specs.declared.nodes.Node.TheVariants.{Input, And, Xor, Free}
+use Rattle.circuit.specs.Types.{Node, Input, And, Xor, Free}
 
 -- the signed variables that a gate reads; nothing else is a gate
 abbrev pub inputs_of : Node → List ℤ

@@ -2,8 +2,7 @@
 use Rattle.std.specs.Prelude.{◌≡◌, ℕ, ◌+◌, Bool, not, ◌&&◌, List, slice_get, Some}
 use Rattle.word_kit.specs.Prelude.{same, literal_truth}
 use Rattle.circuit.specs.Nodes.{AllAgree}
-use Rattle.circuit.specs.declared.nodes.Node.{Node}
-use Rattle.circuit.specs.declared.nodes.Node.TheVariants.{Input, And, Xor, Free}
+use Rattle.circuit.specs.Types.{Node, Input, And, Xor, Free}
 
 -- w fits every node, and has the truths of v for the inputs
 pub record Extends (ns : List Node) (v w : ℕ → Bool) : Type 0 where

@@ -3,7 +3,7 @@
 use Rattle.std.specs.Prelude.{List, length}
 use Rattle.word_kit.specs.Frame as frame
 use Rattle.circuit.specs.Nodes.{AllAgree, IsInput, free_count}
-use Rattle.circuit.specs.declared.nodes.Node.{Node}
+use Rattle.circuit.specs.Types.{Node}
 
 -- and it has no more free variables
 abbrev pub IsLater : List Node → List Node → Type 0

@@ -4,8 +4,7 @@ use Rattle.std.proofs.Common.{arith}
 use Rattle.std.proofs.Math.Nat.{pow-suc}
 use Rattle.word_kit.specs.Prelude.{one_if, of_bits}
 use Rattle.circuit.specs.Literals.{word_value, lit_truth}
-use Rattle.circuit.specs.declared.literals.Lit.{Lit}
-use Rattle.circuit.specs.declared.literals.Lit.TheVariants.{Const}
+use Rattle.circuit.specs.Types.{Lit, Const}
 
 top : (b : Bool) (a p q : ℕ) → a < p → q ≡ p * 2 → a + one_if b * p < q
 top true a p q h e = omega arith

@@ -1,3 +1,4 @@
+pub mod Types
 pub mod Literals
 pub mod Nodes
 pub mod Frame

@@ -1,8 +1,7 @@
 -- What literals, and words of them, mean where variables have truths.
 use Rattle.std.specs.Prelude.{ℕ, zero, suc, ◌+◌, ◌^◌, Bool, false, List, max, Option, None, Some, ℤ, pos, negsuc, slice_index_or}
 use Rattle.word_kit.specs.Prelude.{literal_truth, of_bits}
-use Rattle.circuit.specs.declared.literals.Lit.{Lit}
-use Rattle.circuit.specs.declared.literals.Lit.TheVariants.{Const, Var}
+use Rattle.circuit.specs.Types.{Lit, Const, Var}
 
 abbrev pub lit_truth : Lit → (ℕ → Bool) → Bool
 lit_truth (Const b) v = b

@@ -4,10 +4,7 @@ use Rattle.std.specs.Ordering.{int_eq}
 use Rattle.std.specs.List.{position_or_len}
 use Rattle.word_kit.specs.Prelude.{same, FlagMade, SumMade}
 use Rattle.indexmap.specs.IndexSet.{insert_key}
-use Rattle.circuit.specs.declared.literals.Lit.{Lit}
-use Rattle.circuit.specs.declared.literals.Lit.TheVariants.{Const, Var}
-use Rattle.circuit.specs.declared.nodes.Node.{Node}
-use Rattle.circuit.specs.declared.nodes.Node.TheVariants.{And, Xor}
+use Rattle.circuit.specs.Types.{Lit, Const, Var, Node, And, Xor}
 
 abbrev pub BitMade : Type 0
 BitMade = FlagMade Lit (List Node)

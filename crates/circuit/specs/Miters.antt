@@ -6,9 +6,7 @@ use Rattle.circuit.specs.Literals.{lit_truth, lit_reach, is_true, signed_variabl
 use Rattle.circuit.specs.Extensions.{GatesAgree}
 use Rattle.circuit.specs.Made.{xor_made}
 use Rattle.circuit.specs.WordsMade.{WordsMade, word_made}
-use Rattle.circuit.specs.declared.literals.Lit.{Lit}
-use Rattle.circuit.specs.declared.literals.Lit.TheVariants.{Const}
-use Rattle.circuit.specs.declared.nodes.Node.{Node}
+use Rattle.circuit.specs.Types.{Lit, Const, Node}
 
 -- the pair of a place
 abbrev pub pair_at : List (Lit × Lit) → ℕ → Lit × Lit

@@ -2,10 +2,7 @@
 use Rattle.std.specs.Prelude.{◌≡◌, ◌≤◌, ℕ, ◌+◌, Bool, true, false, not, ◌&&◌, List, [], ◌∷◌, max, slice_get, Some}
 use Rattle.word_kit.specs.Prelude.{one_if, same, bit_of, product_low, product_high, quotient, remainder, divide_faults, literal_truth}
 use Rattle.circuit.specs.Literals.{signed_reach, word_value, word_reach_below}
-use Rattle.circuit.specs.declared.nodes.FreeWord.{FreeWord}
-use Rattle.circuit.specs.declared.nodes.FreeWord.TheVariants.{ProductLow, ProductHigh, Quotient, Remainder, DivideFaults}
-use Rattle.circuit.specs.declared.nodes.Node.{Node}
-use Rattle.circuit.specs.declared.nodes.Node.TheVariants.{Input, And, Xor, Free}
+use Rattle.circuit.specs.Types.{FreeWord, ProductLow, ProductHigh, Quotient, Remainder, DivideFaults, Node, Input, And, Xor, Free}
 
 -- the number that a word free of gates is to be
 abbrev pub free_value : FreeWord → (ℕ → Bool) → ℕ

@@ -1,12 +1,5 @@
 -- What is cited of these specifications, for one `use` line.
-pub use Rattle.circuit.specs.declared.literals.Lit.{Lit}
-pub use Rattle.circuit.specs.declared.literals.Lit.TheVariants.{Const, Var}
-pub use Rattle.circuit.specs.declared.nodes.FreeWord.{FreeWord}
-pub use Rattle.circuit.specs.declared.nodes.FreeWord.TheVariants.{DivideFaults, ProductHigh, ProductLow, Quotient, Remainder}
-pub use Rattle.circuit.specs.declared.nodes.Node.{Node}
-pub use Rattle.circuit.specs.declared.nodes.Node.TheVariants.{And, Free, Input, Xor}
-pub use Rattle.circuit.specs.declared.wiring.Turn.{Turn}
-pub use Rattle.circuit.specs.declared.wiring.Turn.TheVariants.{Arith, Left, Right, Rotate}
+pub use Rattle.circuit.specs.Types.{And, Arith, Const, DivideFaults, Free, FreeWord, Input, Left, Lit, Node, ProductHigh, ProductLow, Quotient, Remainder, Right, Rotate, Turn, Var, Xor}
 pub use Rattle.circuit.specs.Literals.{is_true, lit_reach, lit_truth, signed_reach, signed_variable}
 unfoldable pub use Rattle.circuit.specs.Literals.{word_reach_below, word_value}
 pub use Rattle.circuit.specs.Nodes.{IsOrdered, Says, free_reach, free_value, is_free, node_reach, told_place}

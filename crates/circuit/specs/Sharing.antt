@@ -1,9 +1,6 @@
 -- Each gate, product and division of a circuit is there once.
 use Rattle.std.specs.Prelude.{◌≡◌, ◌≢◌, ◌⊎◌, ℕ, List, slice_get, Some}
-use Rattle.circuit.specs.declared.nodes.FreeWord.{FreeWord}
-use Rattle.circuit.specs.declared.nodes.FreeWord.TheVariants.{ProductLow, ProductHigh, Quotient, Remainder, DivideFaults}
-use Rattle.circuit.specs.declared.nodes.Node.{Node}
-use Rattle.circuit.specs.declared.nodes.Node.TheVariants.{Input, And, Xor, Free}
+use Rattle.circuit.specs.Types.{FreeWord, ProductLow, ProductHigh, Quotient, Remainder, DivideFaults, Node, Input, And, Xor, Free}
 
 -- the same word, with the factors of a product in the other order
 abbrev pub swapped_word : FreeWord → FreeWord

@@ -2,16 +2,7 @@
 use Rattle.std.specs.Prelude.{ℕ, zero, suc, ◌+◌, ◌-◌, ◌*◌, ◌^◌, Bool, true, false, cond, ltb, List, [], ◌∷◌, ◌++◌, slice_index_or, slice_set}
 use Rattle.std.specs.List.{list_any}
 use Rattle.word_kit.specs.Prelude.{bit_of, WordMade, SumMade, QuotientMade, Operations}
-use Rattle.circuit.specs.declared.literals.Lit.{Lit}
-use Rattle.circuit.specs.declared.literals.Lit.TheVariants.{Const}
-use Rattle.circuit.specs.declared.nodes.FreeWord.{FreeWord}
-use Rattle.circuit.specs.declared.nodes.FreeWord.TheVariants.{ProductLow, ProductHigh, Quotient, Remainder, DivideFaults}
-use Rattle.circuit.specs.declared.nodes.Node.{Node}
-use Rattle.circuit.specs.declared.nodes.Node.TheVariants.{Free}
-use Rattle.circuit.specs.declared.wiring.Turn.{Turn}
-use Rattle.circuit.specs.declared.wiring.Turn.TheVariants.{Left, Right, Arith, Rotate}
-use Rattle.circuit.specs.declared.words.BitGate.{BitGate}
-use Rattle.circuit.specs.declared.words.BitGate.TheVariants.{Both, Either, Differ, Choice}
+use Rattle.circuit.specs.Types.{Lit, Const, FreeWord, ProductLow, ProductHigh, Quotient, Remainder, DivideFaults, Node, Free, Turn, Left, Right, Arith, Rotate, BitGate, Both, Either, Differ, Choice}
 use Rattle.circuit.specs.Made.{BitMade, opposite, node_made, and_made, or_made, xor_made, choice_made, full_made, link_made}
 
 abbrev pub WordsMade : Type 0

@@ -32,7 +32,7 @@ alu_of-number Sub = refl
 alu_of-number Xor = refl
 alu_of-number Cmp = refl
 
-alu_below : (op : AluOp) → alu_number op < 8
+pub alu_below : (op : AluOp) → alu_number op < 8
 alu_below Add = omega arith
 alu_below Or = omega arith
 alu_below Adc = omega arith
@@ -139,7 +139,7 @@ unary_of-number Imul1 = refl
 unary_of-number Div = refl
 unary_of-number Idiv = refl
 
-unary_below : (op : UnaryOp) → unary_number op < 8
+pub unary_below : (op : UnaryOp) → unary_number op < 8
 unary_below Not = omega arith
 unary_below Neg = omega arith
 unary_below Mul = omega arith
@@ -207,7 +207,7 @@ condition_of-number NotLess = refl
 condition_of-number NotGreater = refl
 condition_of-number Greater = refl
 
-condition_below : (c : Condition) → condition_number c < 16
+pub condition_below : (c : Condition) → condition_number c < 16
 condition_below Below = omega arith
 condition_below NotBelow = omega arith
 condition_below Equal = omega arith

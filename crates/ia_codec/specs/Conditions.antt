@@ -1,8 +1,7 @@
 -- The conditions of Jcc, SETcc and CMOVcc: the Intel SDM, volume 2, appendix B, table B-10.
 use Rattle.std.specs.Prelude.{Bool, not, ◌||◌}
 use Rattle.word_kit.specs.Prelude.{same}
-use Rattle.ia_codec.specs.declared.op.Condition.{Condition}
-use Rattle.ia_codec.specs.declared.op.Condition.TheVariants.{Below, NotBelow, Equal, NotEqual, NotAbove, Above, Sign, NotSign, Less, NotLess, NotGreater, Greater}
+use Rattle.ia_codec.specs.Types.{Condition, Below, NotBelow, Equal, NotEqual, NotAbove, Above, Sign, NotSign, Less, NotLess, NotGreater, Greater}
 use Rattle.ia_codec.specs.Effect.{Flags}
 
 abbrev pub condition_holds : Condition → Flags → Bool

@@ -1,10 +1,6 @@
 -- The price of an op, this project's own: 1, 2 more for each memory operand, and what its work takes besides.
 use Rattle.std.specs.Prelude.{ℕ, ◌+◌, ◌*◌}
-use Rattle.ia_codec.specs.declared.op.Operand.{Operand}
-use Rattle.ia_codec.specs.declared.op.Operand.TheVariants.{Reg}
-use Rattle.ia_codec.specs.declared.op.UnaryOp.TheVariants.{Mul, Imul1, Div, Idiv}
-use Rattle.ia_codec.specs.declared.op.Op.{Op}
-use Rattle.ia_codec.specs.declared.op.Op.TheVariants.{AluTo, AluFrom, AluImm, TestReg, TestImm, Unary, Imul, MovTo, MovFrom, MovToImm, MovHalfTo, MovByteTo, MovByteFrom, Shift, ShiftByCl, Extend, Set, Cmov, Bsr, JmpTo}
+use Rattle.ia_codec.specs.Types.{Operand, Reg, Mul, Imul1, Div, Idiv, Op, AluTo, AluFrom, AluImm, TestReg, TestImm, Unary, Imul, MovTo, MovFrom, MovToImm, MovHalfTo, MovByteTo, MovByteFrom, Shift, ShiftByCl, Extend, Set, Cmov, Bsr, JmpTo}
 
 -- how many of the operands are in memory
 abbrev pub in_memory : Operand → ℕ

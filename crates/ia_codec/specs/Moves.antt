@@ -1,8 +1,7 @@
 -- What moves and extensions make of a value: the Intel SDM, volume 2, under MOVZX, MOVSX, BSWAP and CDQ.
 use Rattle.std.specs.Prelude.{ℕ, ◌%◌, ◌^◌}
 use Rattle.word_kit.specs.Prelude.{sign_extended, byte_of, joined}
-use Rattle.ia_codec.specs.declared.op.ExtendOp.{ExtendOp}
-use Rattle.ia_codec.specs.declared.op.ExtendOp.TheVariants.{MovzxByte, MovzxHalf, MovsxByte, MovsxHalf}
+use Rattle.ia_codec.specs.Types.{ExtendOp, MovzxByte, MovzxHalf, MovsxByte, MovsxHalf}
 
 -- the low byte or half, with zeros or its sign above it
 abbrev pub extended : ExtendOp → ℕ → ℕ

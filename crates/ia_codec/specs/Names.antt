@@ -1,16 +1,7 @@
 -- The name of an op: the mnemonic of the Intel SDM, volume 2, with cc for any condition. Of this project's own are imul1
 -- (imul of one operand), jmpi (jmp to an operand's value) and int80 (int 0x80).
 use Rattle.std.specs.Prelude.{ℕ, List, codes}
-use Rattle.ia_codec.specs.declared.op.AluOp.{AluOp}
-use Rattle.ia_codec.specs.declared.op.AluOp.TheVariants.{Add, Or, Adc, Sbb, And, Sub, Xor, Cmp}
-use Rattle.ia_codec.specs.declared.op.ShiftOp.{ShiftOp}
-use Rattle.ia_codec.specs.declared.op.ShiftOp.TheVariants.{Rol, Ror, Shl, Shr, Sar}
-use Rattle.ia_codec.specs.declared.op.UnaryOp.{UnaryOp}
-use Rattle.ia_codec.specs.declared.op.UnaryOp.TheVariants.{Not, Neg, Mul, Imul1, Div, Idiv}
-use Rattle.ia_codec.specs.declared.op.ExtendOp.{ExtendOp}
-use Rattle.ia_codec.specs.declared.op.ExtendOp.TheVariants.{MovzxByte, MovzxHalf, MovsxByte, MovsxHalf}
-use Rattle.ia_codec.specs.declared.op.Op.{Op}
-use Rattle.ia_codec.specs.declared.op.Op.TheVariants.{AluTo, AluFrom, AluImm, TestReg, TestImm, Unary, Imul, MovTo, MovFrom, MovImm, MovToImm, MovHalfTo, MovByteTo, MovByteFrom, Shift, ShiftByCl, Lea, Extend, Bswap, Set, Cmov, Bsr, Cdq, Jcc, Jmp, JmpTo, Int80, Int3, Ud2}
+use Rattle.ia_codec.specs.Types.{AluOp, Add, Or, Adc, Sbb, And, Sub, Xor, Cmp, ShiftOp, Rol, Ror, Shl, Shr, Sar, UnaryOp, Not, Neg, Mul, Imul1, Div, Idiv, ExtendOp, MovzxByte, MovzxHalf, MovsxByte, MovsxHalf, Op, AluTo, AluFrom, AluImm, TestReg, TestImm, Unary, Imul, MovTo, MovFrom, MovImm, MovToImm, MovHalfTo, MovByteTo, MovByteFrom, Shift, ShiftByCl, Lea, Extend, Bswap, Set, Cmov, Bsr, Cdq, Jcc, Jmp, JmpTo, Int80, Int3, Ud2}
 
 abbrev pub alu_name : AluOp → List ℕ
 alu_name Add = codes "add"

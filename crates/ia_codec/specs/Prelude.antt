@@ -1,18 +1,5 @@
 -- What is cited of these specifications, for one `use` line.
-pub use Rattle.ia_codec.specs.declared.op.AluOp.{AluOp}
-pub use Rattle.ia_codec.specs.declared.op.AluOp.TheVariants.{Adc, Add, And, Cmp, Or, Sbb, Sub, Xor}
-pub use Rattle.ia_codec.specs.declared.op.Condition.{Condition}
-pub use Rattle.ia_codec.specs.declared.op.Condition.TheVariants.{Above, Below, Equal, Greater, Less, NotAbove, NotBelow, NotEqual, NotGreater, NotLess, NotSign, Sign}
-pub use Rattle.ia_codec.specs.declared.op.ExtendOp.{ExtendOp}
-pub use Rattle.ia_codec.specs.declared.op.ExtendOp.TheVariants.{MovsxByte, MovsxHalf, MovzxByte, MovzxHalf}
-pub use Rattle.ia_codec.specs.declared.op.Op.{Op}
-pub use Rattle.ia_codec.specs.declared.op.Op.TheVariants.{AluFrom, AluImm, AluTo, Bsr, Bswap, Cdq, Cmov, Extend, Imul, Int3, Int80, Jcc, Jmp, JmpTo, Lea, MovByteFrom, MovByteTo, MovFrom, MovHalfTo, MovImm, MovTo, MovToImm, Set, Shift, ShiftByCl, TestImm, TestReg, Ud2, Unary}
-pub use Rattle.ia_codec.specs.declared.op.Operand.{Operand}
-pub use Rattle.ia_codec.specs.declared.op.Operand.TheVariants.{Abs, Base, Pair, Reg}
-pub use Rattle.ia_codec.specs.declared.op.ShiftOp.{ShiftOp}
-pub use Rattle.ia_codec.specs.declared.op.ShiftOp.TheVariants.{Rol, Ror, Sar, Shl, Shr}
-pub use Rattle.ia_codec.specs.declared.op.UnaryOp.{UnaryOp}
-pub use Rattle.ia_codec.specs.declared.op.UnaryOp.TheVariants.{Div, Idiv, Imul1, Mul, Neg, Not}
+pub use Rattle.ia_codec.specs.Types.{Above, Abs, Adc, Add, AluFrom, AluImm, AluOp, AluTo, And, Base, Below, Bsr, Bswap, Cdq, Cmov, Cmp, Condition, Div, Equal, Extend, ExtendOp, Greater, Idiv, Imul, Imul1, Int3, Int80, Jcc, Jmp, JmpTo, Lea, Less, MovByteFrom, MovByteTo, MovFrom, MovHalfTo, MovImm, MovTo, MovToImm, MovsxByte, MovsxHalf, MovzxByte, MovzxHalf, Mul, Neg, Not, NotAbove, NotBelow, NotEqual, NotGreater, NotLess, NotSign, Op, Operand, Or, Pair, Reg, Rol, Ror, Sar, Sbb, Set, Shift, ShiftByCl, ShiftOp, Shl, Shr, Sign, Sub, TestImm, TestReg, Ud2, Unary, UnaryOp, Xor}
 pub use Rattle.ia_codec.specs.Spelling.{IsByte, IsInProfile, IsMemory, IsOperand, IsReading, IsReg, IsSpelt, IsSum, alu_number, condition_number, dword, extend_number, modrm, packed, shift_number, spelling, unary_number}
 pub use Rattle.ia_codec.specs.Cost.{cost_of}
 pub use Rattle.ia_codec.specs.Names.{name_of}

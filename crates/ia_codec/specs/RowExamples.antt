@@ -1,10 +1,6 @@
 -- Rows of ops, worked out by hand: the flags were off, and what is free is chosen as 99 and as flags that are on.
 use Rattle.std.specs.Prelude.{◌≡◌, ℕ, Bool, true, false}
-use Rattle.ia_codec.specs.declared.op.Operand.TheVariants.{Reg}
-use Rattle.ia_codec.specs.declared.op.ShiftOp.TheVariants.{Rol, Ror, Shl, Shr, Sar}
-use Rattle.ia_codec.specs.declared.op.UnaryOp.TheVariants.{Neg, Mul, Imul1, Div, Idiv}
-use Rattle.ia_codec.specs.declared.op.Op.{Op}
-use Rattle.ia_codec.specs.declared.op.Op.TheVariants.{Unary, Imul, ShiftByCl, Bsr, Bswap}
+use Rattle.ia_codec.specs.Types.{Reg, Rol, Ror, Shl, Shr, Sar, Neg, Mul, Imul1, Div, Idiv, Op, Unary, Imul, ShiftByCl, Bsr, Bswap}
 use Rattle.ia_codec.specs.Effect.{Flags, HostValues}
 use Rattle.ia_codec.specs.Rows.{host_row}
 

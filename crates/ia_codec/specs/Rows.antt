@@ -7,13 +7,7 @@
 -- bswap and jmp; `high` is edx. A result of one or two bytes is these bytes alone: the machine puts them where they
 -- go, and leaves the bytes above them as they are.
 use Rattle.std.specs.Prelude.{◌%◌, true, false, cond, bit_and, bit_or, bit_xor}
-use Rattle.ia_codec.specs.declared.op.AluOp.{AluOp}
-use Rattle.ia_codec.specs.declared.op.AluOp.TheVariants.{Add, Or, Adc, Sbb, And, Sub, Xor, Cmp}
-use Rattle.ia_codec.specs.declared.op.UnaryOp.{UnaryOp}
-use Rattle.ia_codec.specs.declared.op.UnaryOp.TheVariants.{Not, Neg, Mul, Imul1, Div, Idiv}
-use Rattle.ia_codec.specs.declared.op.ExtendOp.TheVariants.{MovzxByte}
-use Rattle.ia_codec.specs.declared.op.Op.{Op}
-use Rattle.ia_codec.specs.declared.op.Op.TheVariants.{AluTo, AluFrom, AluImm, TestReg, TestImm, Unary, Imul, MovTo, MovFrom, MovImm, MovToImm, MovHalfTo, MovByteTo, MovByteFrom, Shift, ShiftByCl, Lea, Extend, Bswap, Set, Cmov, Bsr, Cdq, Jcc, Jmp, JmpTo, Int80, Int3, Ud2}
+use Rattle.ia_codec.specs.Types.{AluOp, Add, Or, Adc, Sbb, And, Sub, Xor, Cmp, UnaryOp, Not, Neg, Mul, Imul1, Div, Idiv, MovzxByte, Op, AluTo, AluFrom, AluImm, TestReg, TestImm, Unary, Imul, MovTo, MovFrom, MovImm, MovToImm, MovHalfTo, MovByteTo, MovByteFrom, Shift, ShiftByCl, Lea, Extend, Bswap, Set, Cmov, Bsr, Cdq, Jcc, Jmp, JmpTo, Int80, Int3, Ud2}
 use Rattle.word_kit.specs.Prelude.{complement}
 pub use Rattle.word_kit.specs.Words.{is_negative, same, one_if, sum_word, sum_carries, difference_word}
 use Rattle.ia_codec.specs.Effect.{HostValues, HostEffect, unchanged}

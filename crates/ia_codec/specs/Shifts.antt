@@ -2,8 +2,7 @@
 -- there, a count of 0 changes no flag, and OF is defined for a count of 1 alone.
 use Rattle.std.specs.Prelude.{ℕ, ◌-◌, ◌%◌, Bool, true, false, cond, not, eqb}
 use Rattle.word_kit.specs.Prelude.{is_negative, same, bit_of, shifted_left, shifted_right, shifted_arith, rotated}
-use Rattle.ia_codec.specs.declared.op.ShiftOp.{ShiftOp}
-use Rattle.ia_codec.specs.declared.op.ShiftOp.TheVariants.{Rol, Ror, Shl, Shr, Sar}
+use Rattle.ia_codec.specs.Types.{ShiftOp, Rol, Ror, Shl, Shr, Sar}
 use Rattle.ia_codec.specs.Effect.{Flags, HostValues, HostEffect}
 use Rattle.ia_codec.specs.Sums.{gives}
 

@@ -4,21 +4,7 @@
 -- encodings are in the profile is this project's own: of several encodings of one op it has one.
 use Rattle.std.specs.Prelude.{ℕ, ◌≡◌, ◌≢◌, ◌+◌, ◌*◌, ◌^◌, ◌<◌, ◌≤◌, List, [], ◌∷◌, ◌++◌, take, drop, length, All, Option, Some, ◌↔◌}
 use Rattle.std.specs.Int.{w32, to_le_bytes}
-use Rattle.ia_codec.specs.declared.op.Operand.{Operand}
-use Rattle.ia_codec.specs.declared.op.Operand.TheVariants.{Reg, Abs, Base, Pair}
-use Rattle.ia_codec.specs.declared.op.AluOp.{AluOp}
-use Rattle.ia_codec.specs.declared.op.AluOp.TheVariants.{Add, Or, Adc, Sbb, And, Sub, Xor, Cmp}
-use Rattle.ia_codec.specs.declared.op.ShiftOp.{ShiftOp}
-use Rattle.ia_codec.specs.declared.op.ShiftOp.TheVariants.{Rol, Ror, Shl, Shr, Sar}
-use Rattle.ia_codec.specs.declared.op.UnaryOp.{UnaryOp}
-use Rattle.ia_codec.specs.declared.op.UnaryOp.TheVariants.{Not, Neg, Mul, Imul1, Div, Idiv}
-use Rattle.ia_codec.specs.declared.op.ExtendOp.{ExtendOp}
-use Rattle.ia_codec.specs.declared.op.ExtendOp.TheVariants.{MovzxByte, MovzxHalf, MovsxByte, MovsxHalf}
-use Rattle.ia_codec.specs.declared.op.Condition.{Condition}
-use Rattle.ia_codec.specs.declared.op.Condition.TheVariants.{Below, NotBelow, Equal, NotEqual, NotAbove, Above, Sign, NotSign, Less, NotLess, NotGreater, Greater}
-use Rattle.ia_codec.specs.declared.op.Op.{Op}
-use Rattle.ia_codec.specs.declared.op.Op.TheVariants.{AluTo, AluFrom, AluImm, TestReg, TestImm, Unary, Imul, MovTo, MovFrom, MovImm, MovToImm, MovHalfTo, MovByteTo, MovByteFrom, Shift, ShiftByCl, Lea, Extend, Bswap, Set, Cmov, Bsr, Cdq, Jcc, Jmp, JmpTo, Int80, Int3, Ud2}
-use Rattle.ia_codec.specs.declared.bytes.Bytes12.{Bytes12}
+use Rattle.ia_codec.specs.Types.{Operand, Reg, Abs, Base, Pair, AluOp, Add, Or, Adc, Sbb, And, Sub, Xor, Cmp, ShiftOp, Rol, Ror, Shl, Shr, Sar, UnaryOp, Not, Neg, Mul, Imul1, Div, Idiv, ExtendOp, MovzxByte, MovzxHalf, MovsxByte, MovsxHalf, Condition, Below, NotBelow, Equal, NotEqual, NotAbove, Above, Sign, NotSign, Less, NotLess, NotGreater, Greater, Op, AluTo, AluFrom, AluImm, TestReg, TestImm, Unary, Imul, MovTo, MovFrom, MovImm, MovToImm, MovHalfTo, MovByteTo, MovByteFrom, Shift, ShiftByCl, Lea, Extend, Bswap, Set, Cmov, Bsr, Cdq, Jcc, Jmp, JmpTo, Int80, Int3, Ud2, Bytes12}
 
 -- the bytes that count
 abbrev pub shown : Bytes12 → List ℕ

@@ -4,48 +4,7 @@ use Rattle.machines.specs.Prelude.{spelling, modrm, dword, alu_number, shift_num
 use Rattle.symbolic_tiles.specs.declared.flow_op.FlowOp.{FlowOp}
 use Rattle.symbolic_tiles.specs.declared.flow_op.FlowOp.TheVariants.{Plain, Jump, Mark, Edge, Leap}
 use Rattle.code_layout.specs.Prelude.{Moves, Places, operand_at, op_at, jump_on, spelled, placed, moves_ops, item_length, items_length, is_mark, before_mark, item_bytes, items_bytes}
-
-one : (area n : ℕ) (m : Operand) → length (modrm n (operand_at area m)) ≡ length (modrm n m)
-one area n (Reg m) = refl
-one area n (Abs d) = refl
-one area n (Base b d) = refl
-one area n (Pair b x s d) = refl
-
--- with an immediate behind the operand
-with : (area n : ℕ) (m : Operand) (imm : List ℕ) → length (modrm n (operand_at area m) ++ imm) ≡ length (modrm n m ++ imm)
-with area n m imm = length-append (modrm n (operand_at area m)) imm ∙ ap (λ k. k + length imm) (one area n m) ∙ sym (length-append (modrm n m) imm)
-
--- where the home page stands changes no op's length
-pub placed_length : (area : ℕ) (op : Op) → length (spelling (op_at area op)) ≡ length (spelling op)
-placed_length area (AluTo op to from) = ap suc (one area from to)
-placed_length area (AluFrom op to from) = ap suc (one area to from)
-placed_length area (AluImm op to imm) = ap suc (with area (alu_number op) to (dword imm))
-placed_length area (TestReg a b) = ap suc (one area b a)
-placed_length area (TestImm a imm) = ap suc (with area 0 a (dword imm))
-placed_length area (Unary op on) = ap suc (one area (unary_number op) on)
-placed_length area (Imul to from) = ap (λ k. suc (suc k)) (one area to from)
-placed_length area (MovTo to from) = ap suc (one area from to)
-placed_length area (MovFrom to from) = ap suc (one area to from)
-placed_length area (MovImm to imm) = refl
-placed_length area (MovToImm to imm) = ap suc (with area 0 to (dword imm))
-placed_length area (MovHalfTo to from) = ap (λ k. suc (suc k)) (one area from to)
-placed_length area (MovByteTo to from) = ap suc (one area from to)
-placed_length area (MovByteFrom to from) = ap suc (one area to from)
-placed_length area (Shift op to by) = ap suc (with area (shift_number op) to (by ∷ []))
-placed_length area (ShiftByCl op to) = ap suc (one area (shift_number op) to)
-placed_length area (Lea to from) = ap suc (one area to from)
-placed_length area (Extend op to from) = ap (λ k. suc (suc k)) (one area to from)
-placed_length area (Bswap reg) = refl
-placed_length area (Set condition to) = ap (λ k. suc (suc k)) (one area 0 to)
-placed_length area (Cmov condition to from) = ap (λ k. suc (suc k)) (one area to from)
-placed_length area (Bsr to from) = ap (λ k. suc (suc k)) (one area to from)
-placed_length area Cdq = refl
-placed_length area (Jcc condition rel) = refl
-placed_length area (Jmp rel) = refl
-placed_length area (JmpTo to) = ap suc (one area 4 to)
-placed_length area Int80 = refl
-placed_length area Int3 = refl
-placed_length area Ud2 = refl
+use Rattle.code_layout.proofs.Laying.{op_at-length as placed_length}
 
 pub all_placed_length : (area : ℕ) (ops : List Op) → length (placed area ops) ≡ length (spelled ops)
 all_placed_length area [] = refl

@@ -7,7 +7,7 @@ use Rattle.space.specs.Memory.{Memory}
 use Rattle.access.specs.Kept.{Keeps}
 use Rattle.machine_calls.specs.Calls.{listed_as, IsGiven}
 
-block_length : (n a : ℕ) (bytes : ℕ → ℕ) → length (block n a bytes) ≡ n
+pub block_length : (n a : ℕ) (bytes : ℕ → ℕ) → length (block n a bytes) ≡ n
 unfolding block
 block_length zero a bytes = refl
 block_length (suc n) a bytes = ap suc (block_length n (a + 1) bytes)

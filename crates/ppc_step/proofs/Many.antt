@@ -3,7 +3,8 @@ use Rattle.std.proofs.Common.{◌≡◌, ◌≢◌, inl, inr, subst, ℕ, zero, 
 use Rattle.std.specs.Prelude.{if◌then◌else◌}
 use Rattle.std.proofs.lemmas.Bool.Decides.{nat_tests}
 use Rattle.std.proofs.lemmas.Bool.{cases_eq, cases_lt}
-use Rattle.access.proofs.Bytes.{each_at, each_of}
+use Rattle.access.proofs.Bytes.{each_at}
+use Rattle.machines.proofs.Stack.{each_true as each_of}
 use Rattle.machines.specs.Prelude.{Program, rights_of, update, load_big, store_big, each_byte, Guest, put_loaded, store_registers}
 use Rattle.ppc_step.specs.Prelude.{State, IsState}
 

@@ -20,6 +20,7 @@ use Rattle.ia_codec.specs.declared.op.Condition.TheVariants as condition
 use Rattle.ia_codec.specs.declared.op.Op.{Op}
 use Rattle.ia_codec.specs.declared.op.Op.TheVariants.{AluTo, AluFrom, AluImm, TestReg, TestImm, Unary, Imul, MovTo, MovFrom, MovImm, MovToImm, MovHalfTo, MovByteTo, MovByteFrom, Shift, ShiftByCl, Lea, Extend, Bswap, Set, Cmov, Bsr, Cdq, Jcc, Jmp, JmpTo, Int80, Int3, Ud2}
 use Rattle.ia_codec.proofs.Spelt.{prefix_free}
+use Rattle.ia_codec.proofs.Roundtrip.{alu_below as alu-low, unary_below as unary-low, condition_below as condition-low}
 
 abbrev AreBytes : List ℕ → Type 0
 AreBytes bs = AllByRecursion (λ b. b < 256) bs
@@ -73,44 +74,12 @@ of-byte (Abs d) h = h
 of-byte (Base b d) h = h
 of-byte (Pair b x s d) h = h
 
-alu-low : (op : AluOp) → alu_number op < 8
-alu-low alu.Add = omega arith
-alu-low alu.Or = omega arith
-alu-low alu.Adc = omega arith
-alu-low alu.Sbb = omega arith
-alu-low alu.And = omega arith
-alu-low alu.Sub = omega arith
-alu-low alu.Xor = omega arith
-alu-low alu.Cmp = omega arith
-
 shift-low : (op : ShiftOp) → shift_number op < 8
 shift-low shift.Rol = omega arith
 shift-low shift.Ror = omega arith
 shift-low shift.Shl = omega arith
 shift-low shift.Shr = omega arith
 shift-low shift.Sar = omega arith
-
-unary-low : (op : UnaryOp) → unary_number op < 8
-unary-low unary.Not = omega arith
-unary-low unary.Neg = omega arith
-unary-low unary.Mul = omega arith
-unary-low unary.Imul1 = omega arith
-unary-low unary.Div = omega arith
-unary-low unary.Idiv = omega arith
-
-condition-low : (c : Condition) → condition_number c < 16
-condition-low condition.Below = omega arith
-condition-low condition.NotBelow = omega arith
-condition-low condition.Equal = omega arith
-condition-low condition.NotEqual = omega arith
-condition-low condition.NotAbove = omega arith
-condition-low condition.Above = omega arith
-condition-low condition.Sign = omega arith
-condition-low condition.NotSign = omega arith
-condition-low condition.Less = omega arith
-condition-low condition.NotLess = omega arith
-condition-low condition.NotGreater = omega arith
-condition-low condition.Greater = omega arith
 
 reg-low : (r : ℕ) → IsReg r → r < 8
 reg-low r h = h.0

@@ -6,11 +6,7 @@ use Rattle.space.specs.declared.call.CallKind.TheVariants as kind
 use Rattle.space.specs.Memory.{Memory}
 use Rattle.access.specs.Kept.{Keeps}
 use Rattle.runner.specs.Prelude.{StandAt, Describes}
-
-block_length : (n a : ℕ) (f : ℕ → ℕ) → length (block n a f) ≡ n
-unfolding block
-block_length zero a f = refl
-block_length (suc n) a f = ap suc (block_length n (a + 1) f)
+use Rattle.machine_calls.proofs.Giving.{block_length}
 
 block_at : (n a k : ℕ) (f : ℕ → ℕ) → k < n → slice_index (block n a f) k ≡ f ((a + k) % 2 ^ 32)
 unfolding block

@@ -10,7 +10,8 @@ use Rattle.symbolic_tiles.specs.Prelude.{IsCore, leap_target}
 use Rattle.code_layout.specs.Prelude.{leap_ops}
 use Rattle.simulation.specs.Prelude.{SimulationContext, MatchesState, LeapAt, IsTranslation}
 use Rattle.symbolic_tiles.proofs.Memory.{load_same, update_keeps}
-use Rattle.symbolic_tiles.proofs.Places.{slot_cached, each_of}
+use Rattle.symbolic_tiles.proofs.Places.{slot_cached}
+use Rattle.machines.proofs.Stack.{each_true as each_of}
 use Rattle.symbolic_tiles.proofs.Walked.{ops_are_walked}
 use Rattle.simulation.proofs.Full.{walk_keeps, IsUnwritten}
 

@@ -8,6 +8,7 @@ use Rattle.machines.specs.Host.{Memory}
 use Rattle.reg_map.proofs.Homes.{homes_apart}
 use Rattle.symbolic_tiles.specs.Prelude.{IsFree, IsUnowned}
 use Rattle.symbolic_tiles.proofs.Memory.{update_same, update_other, store_other, load_store, load_apart}
+use Rattle.machines.proofs.Stack.{each_true as each_of}
 
 -- the GPR in a register
 abbrev pub content : Map → ℕ → Option ℕ
@@ -136,14 +137,6 @@ module _ (m : Map) (area : ℕ) (low : area + 4096 ≤ 2 ^ 32) where
       by_slot : (s : Option ℕ) → (put_at core (in_slot s (home_place x)) v).flags ≡ core.flags
       by_slot None = refl
       by_slot (Some s) = refl
-
-pub each_of : (test : ℕ → Bool) (n a : ℕ) → ((i : ℕ) → i < n → test ((a + i) % 2 ^ 32) ≡ true) → each_byte test n a ≡ true
-unfolding each_byte
-each_of test zero a h = refl
-each_of test (suc n) a h =
-    let here : test (a % 2 ^ 32) ≡ true = subst (λ k. test (k % 2 ^ 32) ≡ true) (let e : a + 0 ≡ a = omega arith in e) (h 0 (omega arith)) in
-    let rest = each_of test n (a + 1) (λ i lt. subst (λ k. test (k % 2 ^ 32) ≡ true) (let e : a + (i + 1) ≡ a + 1 + i = omega arith in e) (h (i + 1) (omega arith))) in
-    simp (here, rest)
 
 module _ (m : Map) (area : ℕ) (guest host : Rights) (page : IsHomePage area guest host) where
   page_byte : (test : ℕ → Bool) → ((i : ℕ) → i < 4096 → test (area + i) ≡ true) → (x : ℕ) → x < 46 → each_byte test (home_size x) (area + home x) ≡ true

@@ -9,7 +9,8 @@ use Rattle.machines.specs.Host.{Memory}
 use Rattle.symbolic_tiles.specs.Prelude.{is_jump, op_at, WritesHeld, Location, SymbolicOp, op_of, IsWellFormed, is_taken, Exit, Leaves, Leaps, Stops, Calls, Falls, behind_op, flow, AreItems, TileItem, Do, JumpIf, Label, LoadEbx, BranchTo, BranchIndirect, Interrupt, Trap, Undefined, code_of, flows_of, IsFree, SymbolicState, with_reg, execute_op, SymbolicExit, Out, Indirect, Stopped, Called, Unknown, goes_on, then_exit, with_given, asks_for, calls, execute}
 use Rattle.symbolic_tiles.proofs.Small.{both_true}
 use Rattle.symbolic_tiles.proofs.Memory.{update_other, update_keeps, load_same}
-use Rattle.symbolic_tiles.proofs.Places.{free_low, each_of, home_within}
+use Rattle.symbolic_tiles.proofs.Places.{free_low, home_within}
+use Rattle.machines.proofs.Stack.{each_true as each_of}
 use Rattle.symbolic_tiles.proofs.Shows.{Shows, Kept, shows_op, shows_reg, fetched, read_operand, operand_word, op_acts, no_jump, fetch_plain, fetch_no_jump}
 
 -- the number of a condition says what the condition says
