@@ -1,2 +1,2 @@
-mod Giving
+pub mod Giving
 pub mod Phases
