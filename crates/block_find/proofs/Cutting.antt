@@ -6,7 +6,7 @@ use Rattle.std.proofs.lemmas.Bool.Decides.{eqb_tells}
 use Rattle.std.proofs.lemmas.List.{get_or_append_left, get_or_push, get_or_default}
 use Rattle.std.proofs.Math.ListN.{length-append}
 use Rattle.block_find.specs.Blocks as say
-use Rattle.block_find.specs.Prelude.{most, IsIn, MayEnd, flow, leader, full, over, IsBlock, Begins, AreLeaders, Marks, AreMarked, IsFar, AreCut, next_run_of}
+use Rattle.block_find.specs.Prelude.{IsIn, MayEnd, flow, leader, full, over, IsBlock, Begins, AreLeaders, Marks, AreMarked, IsFar, AreCut, next_run_of}
 use Rattle.block_find.specs.Marks as mark
 use Rattle.block_find.proofs.Marking.{in_within}
 

@@ -3,7 +3,7 @@ use Rattle.std.proofs.Common.{◌≡◌, ℕ, ◌*◌, ◌/◌, ◌^◌, ◌<◌
 use Rattle.std.proofs.lemmas.Int.{ints, fits_signed_mul, rem_below}
 use Rattle.std.proofs.Math.Nat.{mod-lt}
 use Rattle.std.proofs.lemmas.Bool.Decides.{nat_tests}
-use Rattle.word_kit.specs.Prelude.{one_if, signed, signed_in, two_complement, bit_of, product_low, product_high, quotient, remainder, divide_faults, fits_word, signed_quotient, signed_remainder, two_words}
+use Rattle.word_kit.specs.Prelude.{signed, signed_in, two_complement, bit_of, product_low, product_high, quotient, remainder, divide_faults, fits_word, signed_quotient, signed_remainder, two_words}
 use Rattle.circuit.specs.Prelude.{lit_truth, word_value, at, Lit}
 use Rattle.circuit.proofs.Numbers.{number_below}
 use Rattle.circuit.proofs.Meanings.{word_is}

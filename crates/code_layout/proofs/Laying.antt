@@ -1,14 +1,13 @@
 -- Items that are put one behind another.
 use Rattle.std.specs.Prelude.{◌==◌, slice_index_or, if◌then◌else◌}
 use Rattle.std.proofs.lemmas.Bool.{eqb-true}
-use Rattle.std.proofs.Common.{◌≡◌, ◌≢◌, ◌≤◌, ◌<◌, ◌+◌, ◌-◌, ℕ, suc, take, Bool, true, false, List, [], ◌∷◌, ◌++◌, length, get_or, drop, Option, None, Some, refl, ap, sym, ◌∙◌, append_assoc, drop-cons, arith}
+use Rattle.std.proofs.Common.{◌≡◌, ◌≢◌, ◌≤◌, ◌<◌, ◌+◌, ◌-◌, ℕ, suc, take, Bool, true, false, List, [], ◌∷◌, ◌++◌, length, get_or, drop, refl, ap, sym, ◌∙◌, append_assoc, drop-cons, arith}
 use Rattle.std.proofs.lemmas.Grind.{common_steps}
 use Rattle.std.proofs.lemmas.List.{append-nil, get_or_past, length-drop, take_all}
-use Rattle.ia_codec.specs.Reading.{condition_of_number}
-use Rattle.machines.specs.Prelude.{Operand, Reg, Abs, Base, Pair, Condition, Op, AluTo, AluFrom, AluImm, TestReg, TestImm, Unary, Imul, MovTo, MovFrom, MovToImm, MovHalfTo, MovByteTo, MovByteFrom, Shift, ShiftByCl, Lea, Extend, Set, Cmov, Bsr, JmpTo, modrm, dword, spelling, alu_number, shift_number, unary_number}
+use Rattle.machines.specs.Prelude.{Operand, Reg, Abs, Base, Pair, Op, AluTo, AluFrom, AluImm, TestReg, TestImm, Unary, Imul, MovTo, MovFrom, MovToImm, MovHalfTo, MovByteTo, MovByteFrom, Shift, ShiftByCl, Lea, Extend, Set, Cmov, Bsr, JmpTo, modrm, dword, spelling, alu_number, shift_number, unary_number}
 use Rattle.symbolic_tiles.specs.declared.flow_op.FlowOp.{FlowOp}
 use Rattle.block_find.specs.Prelude.{address_of}
-use Rattle.code_layout.specs.Prelude.{Places, place_of, entry_of, jump_on, jump, item_length, item_bytes, items_bytes}
+use Rattle.code_layout.specs.Prelude.{Places, place_of, entry_of, item_length, item_bytes, items_bytes}
 use Rattle.reg_map.specs.Prelude.{operand_at, op_at}
 
 moved : (n area : ℕ) (m : Operand) → length (modrm n (operand_at area m)) ≡ length (modrm n m)

@@ -3,7 +3,7 @@ use Rattle.std.proofs.Common.{◌≡◌, ℕ, zero, suc, ◌+◌, ◌-◌, ◌<�
 use Rattle.std.specs.Prelude.{if◌then◌else◌, IsTrue, slice_get}
 use Rattle.std.specs.List.{All}
 use Rattle.std.proofs.lemmas.Bool.Decides.{nat_tests}
-use Rattle.std.proofs.lemmas.List.{length-append, length-take-le, length-drop, length-replicate}
+use Rattle.std.proofs.lemmas.List.{length-append, length-take-le, length-drop}
 use Rattle.std.proofs.lemmas.List.Elements.{All-nil, All-cons, All-append, All-weaker, All-get_or}
 use Rattle.std.proofs.lemmas.List.Quantifiers.{position-Some}
 use Rattle.std.proofs.lemmas.Option.{slice_get-get_or, get_or_from_slice_get}
@@ -14,10 +14,7 @@ use Rattle.elf_load.specs.declared.faults.HeaderRule.TheVariants as header_rule
 use Rattle.elf_load.specs.declared.refusal.ElfRefusal.{ElfRefusal}
 use Rattle.elf_load.specs.declared.refusal.ElfRefusal.TheVariants as refusal
 use Rattle.elf_load.proofs.Tried.{none_breaks, lies_inside}
-
-length_zeros : (n : ℕ) → length (zeros n) ≡ n
-unfolding zeros
-length_zeros n = length-replicate n 0
+use Rattle.elf_load.proofs.LowCode.{zeros-length as length_zeros}
 
 -- a segment has as many bytes as its header asks for
 length_of_segment : (bytes : List ℕ) (h : ProgramHeader) → h.offset + h.filesz ≤ length bytes → h.filesz ≤ h.memsz

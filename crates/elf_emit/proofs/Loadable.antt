@@ -1,14 +1,12 @@
 -- The segments of a translation's file can be loaded.
 use Rattle.std.proofs.Common.{◌≡◌, ℕ, zero, suc, ◌+◌, ◌-◌, ◌*◌, ◌^◌, ◌<◌, ◌≤◌, true, false, List, [], ◌∷◌, ◌++◌, length, map, get_or, refl, sym, ap, ◌∙◌, subst, inl, inr, arith}
 use Rattle.std.specs.Prelude.{IsTrue, AllPairs}
-use Rattle.std.specs.List.{All, HoldsAt, sum_by, flat_map}
+use Rattle.std.specs.List.{All, HoldsAt, sum_by}
 use Rattle.std.proofs.lemmas.Bool.{cases_lt}
 use Rattle.std.proofs.lemmas.List.{append_assoc, length-append, length-map, get_or-map, get_or_append_left, get_or-append_right}
 use Rattle.std.proofs.lemmas.List.Elements.{All-push, All-nil, All-cons, All-append, All-map, All-weaker}
 use Rattle.std.proofs.lemmas.List.Quantifiers.{all_pairs_push}
 use Rattle.std.proofs.lemmas.List.Sums.{sum_by-append, sum_by-cons}
-use Rattle.byteorder.specs.Endian.{little_bytes}
-use Rattle.byteorder.specs.Numbers.{length-bytes_low_first}
 use Rattle.space.specs.declared.program.Kind.TheVariants.{PowerPc, Ia32}
 use Rattle.space.specs.declared.program.Segment.{Segment}
 use Rattle.space.specs.declared.program.Program.{Program}
@@ -17,16 +15,13 @@ use Rattle.elf_load.specs.Prelude.{IsArea, MeetsArea, IsProgramOf, zeros}
 use Rattle.elf_emit.specs.Prelude.{FileSegment, word, elf_file, is_code, IsSound, AreApart, AreLoadable, source, whole, home_page, home_segment, table_segment, table_bytes, code_segment, added, file_segments, translated, FitsArea}
 use Rattle.elf_emit.proofs.Kept.{kept_bound, length_source, file_in_memory}
 use Rattle.elf_emit.proofs.Loads.{written_file_loads}
-use Rattle.elf_emit.proofs.Source.{HasPlace, SharesNone, memory_of, AreOfProgram, of_program, length_zeros}
+use Rattle.elf_emit.proofs.Source.{HasPlace, SharesNone, memory_of, AreOfProgram, of_program}
+use Rattle.elf_load.proofs.LowCode.{zeros-length as length_zeros}
+use Rattle.branch_table.proofs.Words.{length_of_table}
 
 pub length_home_page : length home_page ≡ 4096
 unfolding home_page
 length_home_page = omega (arith, length-append (word 0 ++ word 0x7F0FFFC0) (zeros 4088), length_zeros 4088)
-
-pub length_of_table : (xs : List ℕ) → length (flat_map (little_bytes 4) xs) ≡ 4 * length xs
-length_of_table [] = refl
-length_of_table (x ∷ xs) =
-    omega (arith, length-append (little_bytes 4 x) (flat_map (little_bytes 4) xs), length-bytes_low_first 0 4 x, length_of_table xs)
 
 no_segment : Segment
 no_segment = record { at = 0; write = false; exec = false; bytes = [] }

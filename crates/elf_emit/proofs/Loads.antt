@@ -4,7 +4,7 @@ use Rattle.std.specs.List.{All}
 use Rattle.std.proofs.lemmas.List.{append_assoc, append-nil, length-append, take_all}
 use Rattle.std.proofs.lemmas.List.Sums.{sum_by-take-le}
 use Rattle.space.specs.declared.program.Kind.TheVariants.{PowerPc, Ia32}
-use Rattle.elf_load.specs.Prelude.{header, header_count, SharesAddress, segments_before, segments_of, IsFirstHeader, HasOneCode, Passes, IsProgramOf}
+use Rattle.elf_load.specs.Prelude.{header, header_count, segments_before, segments_of, IsFirstHeader, HasOneCode, Passes, IsProgramOf}
 use Rattle.elf_load.specs.Headers as load
 use Rattle.elf_load.specs.declared.headers.ProgramHeader.{ProgramHeader}
 use Rattle.elf_load.specs.declared.faults.HeaderRule.TheVariants as header_rule

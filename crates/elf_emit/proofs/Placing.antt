@@ -5,7 +5,7 @@ use Rattle.std.proofs.lemmas.List.{append-nil, drop_more, drop_all, length-map}
 use Rattle.std.proofs.lemmas.List.Elements.{All-head, All-tail}
 use Rattle.std.proofs.lemmas.List.Sums.{sum_by-cons}
 use Rattle.elf_load.specs.Prelude.{zeros}
-use Rattle.elf_emit.specs.Prelude.{FileSegment, word, file_header, elf_file, program_header, program_headers, contents, headers_end, offset_of, end_of, IsSound, shown, all_shown, AreFew, home_page, Part}
+use Rattle.elf_emit.specs.Prelude.{FileSegment, word, file_header, elf_file, program_header, program_headers, contents, headers_end, offset_of, end_of, IsSound, shown, all_shown, home_page, Part}
 
 -- what is left from a place on begins with the segment there
 left_from : (parts : List Part) (i : ℕ) (d : Part) → i < length parts

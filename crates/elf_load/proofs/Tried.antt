@@ -1,8 +1,8 @@
 -- What a file has that passes the rules tried so far.
-use Rattle.std.proofs.Common.{◌≡◌, ℕ, zero, suc, ◌+◌, ◌<◌, ◌≤◌, true, List, length, refl, subst, sym, ◌∙◌, ap, arith, below_more, lit<}
+use Rattle.std.proofs.Common.{◌≡◌, ℕ, zero, suc, ◌+◌, ◌<◌, ◌≤◌, true, List, length, refl, subst, sym, ◌∙◌, ap, arith, below_more}
 use Rattle.std.specs.Prelude.{◌==◌, if◌then◌else◌, IsTrue}
 use Rattle.space.specs.declared.program.Kind.{Kind}
-use Rattle.elf_load.specs.Prelude.{header, header_count, header_offset, HasTable, is_load, is_segment, ProgramHeader, Passes, PassesBelow, IsFirstHeader, Breaks, number_of, HeaderRule, ElfRefusal}
+use Rattle.elf_load.specs.Prelude.{header, header_count, header_offset, HasTable, is_load, is_segment, ProgramHeader, PassesBelow, IsFirstHeader, Breaks, number_of, HeaderRule, ElfRefusal}
 use Rattle.elf_load.specs.declared.faults.HeaderRule.TheVariants as header_rule
 use Rattle.elf_load.specs.declared.refusal.ElfRefusal.TheVariants as refusal
 

@@ -3,19 +3,19 @@ use Rattle.std.proofs.Common.{◌≡◌, ℕ, ◌+◌, ◌*◌, ◌/◌, ◌%◌
 use Rattle.ia_codec.specs.Prelude.{Operand, AluOp, Add, Or, Adc, Sbb, And, Sub, Xor, Cmp, ShiftOp, Rol, Ror, Shl, Shr, Sar, UnaryOp, Not, Neg, Mul, Imul1, Div, Idiv, ExtendOp, MovzxByte, MovzxHalf, MovsxByte, MovsxHalf, Condition, Below, NotBelow, Equal, NotEqual, NotAbove, Above, Sign, NotSign, Less, NotLess, NotGreater, Greater, Op, AluTo, AluFrom, AluImm, TestReg, TestImm, Unary, Imul, MovTo, MovFrom, MovImm, MovToImm, MovHalfTo, MovByteTo, MovByteFrom, Shift, ShiftByCl, Lea, Extend, Bswap, Set, Cmov, Bsr, Cdq, Jcc, Jmp, JmpTo, Int80, Int3, Ud2, dword, modrm, alu_number, shift_number, unary_number, extend_number, condition_number, spelling, IsOperand, IsMemory, IsSum, IsByte, IsInProfile, byte_at, alu_to_at, alu_from_at, alu_of_number, shift_of_number, alu_imm_at, shift_at, shift_by_cl_at, unary_of_number, after_f7_at, extend_at, condition_of_number, after_66_at, conditional_at, after_0f_at, plain_op, plain_at, mov_to_imm_at, read, Reg, Abs, Base, Pair}
 use Rattle.ia_codec.proofs.Parts.{dword_at-dword, modrm_at-modrm}
 
-memory_is : (m : Operand) → IsMemory m → IsOperand m
+pub memory_is : (m : Operand) → IsMemory m → IsOperand m
 memory_is (Reg m) h = absurd h
 memory_is (Abs d) h = h
 memory_is (Base b d) h = h
 memory_is (Pair b x s d) h = h
 
-sum_is : (m : Operand) → IsSum m → IsOperand m
+pub sum_is : (m : Operand) → IsSum m → IsOperand m
 sum_is (Reg m) h = absurd h
 sum_is (Abs d) h = absurd h
 sum_is (Base b d) h = h
 sum_is (Pair b x s d) h = h
 
-byte_is : (m : Operand) → IsByte m → IsOperand m
+pub byte_is : (m : Operand) → IsByte m → IsOperand m
 byte_is (Reg m) h = (omega arith, λ e. omega arith, λ e. omega arith)
 byte_is (Abs d) h = h
 byte_is (Base b d) h = h

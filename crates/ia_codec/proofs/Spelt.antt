@@ -1,7 +1,6 @@
 -- At most one op is spelt at the front of given bytes.
 use Rattle.std.proofs.Common.{◌≡◌, ℕ, List, ◌++◌, length, take, drop, Option, Some, None, refl, sym, ap, subst, ◌∙◌, arith}
-use Rattle.std.proofs.Math.Seq.{take-append_seam}
-use Rattle.std.proofs.lemmas.List.{take-append-drop, length-append, length-take}
+use Rattle.std.proofs.lemmas.List.{take-append-drop, length-take}
 use Rattle.ia_codec.specs.Prelude.{Op, spelling, IsSpelt, IsInProfile, read}
 use Rattle.ia_codec.proofs.Roundtrip.{read-spelling}
 

@@ -2,10 +2,10 @@
 use Rattle.std.proofs.Common.{◌≡◌, ◌≢◌, ℕ, List, [], ◌∷◌, length, map, refl, sym, subst, ◌∙◌, arith, Vec, Global, Result, Ok, Err, IfOk, IfErr, MatchResult}
 use Rattle.std.specs.List.{AllByRecursion}
 use Rattle.line_text.specs.FirstBad.{IsFirstBad}
-use Rattle.line_text.proofs.Reading.{IsRead, bad-end, good-end, text-same, text-good}
+use Rattle.line_text.proofs.Reading.{IsRead, bad-end, text-same, text-good}
 use Rattle.rule_body.specs.declared.rule.Rule.{Rule}
 use Rattle.rule_body.specs.Prelude.{IsRule, AreRules}
-use Rattle.rule_form.specs.Prelude.{Progress, TextFault, RuleText, AreWritten, IsWritten, IsRuleText, written, text_of, State, Start, Between, IsFault, IsMemory, state_of, IsReached}
+use Rattle.rule_form.specs.Prelude.{Progress, TextFault, RuleText, AreWritten, IsWritten, IsRuleText, written, text_of, State, Start, Between, IsFault, IsMemory, state_of}
 use Rattle.rule_form.specs.declared.progress.Progress.TheVariants as progress
 use Rattle.rule_form.specs.declared.fault.TextFault.TheVariants as fault
 use Rattle.rule_form.proofs.RuleGrammar.{rules, is-grammar}

@@ -7,9 +7,7 @@ use Rattle.line_text.specs.Lines.{line_of}
 use Rattle.std.proofs.lemmas.Grind.{flat_map-append}
 use Rattle.std.proofs.lemmas.List.{map-append}
 use Rattle.std.specs.List.{AllByRecursion}
-use Rattle.rule_body.specs.declared.rule.Rule.{Rule}
-use Rattle.rule_body.specs.Prelude.{Template}
-use Rattle.rule_form.specs.Prelude.{chosen, listed, Item, Title, Open, GuestLine, At, Dead, Host, Take, Clause, End, words_of, RuleText, front_of, opened, written, text_of}
+use Rattle.rule_form.specs.Prelude.{chosen, listed, Item, Open, GuestLine, At, Dead, Host, Take, Clause, End, words_of, RuleText, front_of, opened, written}
 
 join-all : (by : ℕ) (w : List ℕ) (ws : List (List ℕ)) → join_with_byte by (w ∷ ws) ≡ w ++ flat_map (λ v. by ∷ v) ws
 join-all by w [] = sym (nil w)

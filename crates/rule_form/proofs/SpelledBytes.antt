@@ -5,22 +5,19 @@ use Rattle.std.specs.Int.{w32, to_be_bytes, from_be_bytes}
 use Rattle.std.proofs.lemmas.Nat.{from_be_bytes-to_be_bytes_4}
 use Rattle.hex.specs.Hex.{encode_lower, decode_of}
 use Rattle.hex.proofs.HexLemmas.{decode_of-encode_lower}
-use Rattle.ia_codec.specs.Prelude.{spelling, IsInProfile, IsOperand, IsMemory, IsReg, IsByte, IsSum, modrm, dword, alu_number, shift_number, unary_number, condition_number}
+use Rattle.ia_codec.specs.Prelude.{spelling, IsInProfile, IsOperand, IsReg, modrm, dword, alu_number, shift_number, unary_number}
 use Rattle.ia_codec.specs.declared.op.Operand.{Operand}
 use Rattle.ia_codec.specs.declared.op.Operand.TheVariants.{Reg, Abs, Base, Pair}
-use Rattle.ia_codec.specs.declared.op.AluOp.{AluOp}
 use Rattle.ia_codec.specs.declared.op.AluOp.TheVariants as alu
 use Rattle.ia_codec.specs.declared.op.ShiftOp.{ShiftOp}
 use Rattle.ia_codec.specs.declared.op.ShiftOp.TheVariants as shift
-use Rattle.ia_codec.specs.declared.op.UnaryOp.{UnaryOp}
 use Rattle.ia_codec.specs.declared.op.UnaryOp.TheVariants as unary
 use Rattle.ia_codec.specs.declared.op.ExtendOp.TheVariants.{MovzxByte, MovzxHalf, MovsxByte, MovsxHalf}
-use Rattle.ia_codec.specs.declared.op.Condition.{Condition}
 use Rattle.ia_codec.specs.declared.op.Condition.TheVariants as condition
 use Rattle.ia_codec.specs.declared.op.Op.{Op}
 use Rattle.ia_codec.specs.declared.op.Op.TheVariants.{AluTo, AluFrom, AluImm, TestReg, TestImm, Unary, Imul, MovTo, MovFrom, MovImm, MovToImm, MovHalfTo, MovByteTo, MovByteFrom, Shift, ShiftByCl, Lea, Extend, Bswap, Set, Cmov, Bsr, Cdq, Jcc, Jmp, JmpTo, Int80, Int3, Ud2}
 use Rattle.ia_codec.proofs.Spelt.{prefix_free}
-use Rattle.ia_codec.proofs.Roundtrip.{alu_below as alu-low, unary_below as unary-low, condition_below as condition-low}
+use Rattle.ia_codec.proofs.Roundtrip.{alu_below as alu-low, unary_below as unary-low, condition_below as condition-low, memory_is as of-memory, sum_is as of-sum, byte_is as of-byte}
 
 abbrev AreBytes : List ℕ → Type 0
 AreBytes bs = AllByRecursion (λ b. b < 256) bs
@@ -55,24 +52,6 @@ bytes-modrm n (Reg m) h i = (let k = i.0 in omega (arith, h, k), tt)
 bytes-modrm n (Abs d) h i = (omega (arith, h), bytes-dword d)
 bytes-modrm n (Base b d) h i = (let k = i.0.0 in omega (arith, h, k), bytes-dword d)
 bytes-modrm n (Pair b x s d) h i = (omega (arith, h), (let k = i.0.0 in let l = i.1.0 in let m = i.2 in omega (arith, k, l, m), bytes-dword d))
-
-of-memory : (o : Operand) → IsMemory o → IsOperand o
-of-memory (Reg m) h = absurd h
-of-memory (Abs d) h = h
-of-memory (Base b d) h = h
-of-memory (Pair b x s d) h = h
-
-of-sum : (o : Operand) → IsSum o → IsOperand o
-of-sum (Reg m) h = absurd h
-of-sum (Abs d) h = absurd h
-of-sum (Base b d) h = h
-of-sum (Pair b x s d) h = h
-
-of-byte : (o : Operand) → IsByte o → IsOperand o
-of-byte (Reg m) h = (omega (arith, h), λ e. omega (arith, h, e), λ e. omega (arith, h, e))
-of-byte (Abs d) h = h
-of-byte (Base b d) h = h
-of-byte (Pair b x s d) h = h
 
 shift-low : (op : ShiftOp) → shift_number op < 8
 shift-low shift.Rol = omega arith

@@ -1,5 +1,5 @@
 -- A call that a machine asks describes the call that is listed.
-use Rattle.std.proofs.Common.{◌≡◌, ◌<◌, ◌+◌, ◌%◌, ◌^◌, ℕ, zero, suc, true, false, length, Some, refl, sym, ap, ◌∙◌, arith}
+use Rattle.std.proofs.Common.{◌≡◌, ◌<◌, ◌+◌, ◌%◌, ◌^◌, ℕ, zero, suc, true, false, Some, refl, sym, ap, ◌∙◌, arith}
 use Rattle.std.specs.Prelude.{slice_index}
 use Rattle.machines.specs.Prelude.{Call, Program, ArePermitted, Write, block, is_held}
 use Rattle.space.specs.declared.call.CallKind.TheVariants as kind

@@ -1,6 +1,5 @@
 -- Bytes of a memory that are put piece by piece.
-use Rattle.std.proofs.Common.{◌≡◌, ◌≤◌, ◌<◌, ◌+◌, ◌%◌, ◌^◌, ℕ, Bool, List, ◌++◌, length, take, drop, Option, Some, None, sym, ap, ◌∙◌, arith, append_assoc}
-use Rattle.std.proofs.Math.Seq.{take-add}
+use Rattle.std.proofs.Common.{◌≡◌, ◌≤◌, ◌<◌, ◌+◌, ◌%◌, ◌^◌, ℕ, Bool, List, ◌++◌, length, take, drop, Option, Some, sym, ◌∙◌, arith}
 use Rattle.std.proofs.lemmas.List.{get_or-take, get_or-drop, length-take-le, length-drop, take-take}
 use Rattle.std.proofs.lemmas.Grind.{same_number_lists}
 use Rattle.std.specs.Io.KnownBytes.{Appends}
@@ -8,6 +7,7 @@ use Rattle.machines.specs.Prelude.{ArePermitted}
 use Rattle.space.specs.Memory.{Memory}
 use Rattle.outside.specs.Streams.{AppendsPrefix}
 use Rattle.runner.specs.Prelude.{StandAt}
+use Rattle.outside.proofs.Appending.{appends_two as more_put}
 
 some_injective : {x y : ℕ} → Some x ≡ Some y → x ≡ y
 some_injective e = grind arith
@@ -31,13 +31,6 @@ pub part_stands : (m : Memory) (at : ℕ) (bytes : List ℕ) (done size : ℕ) �
 part_stands m at bytes done size le stand k lt =
     let small : k < size = omega (arith, lt, length_part bytes done size le) in
     rw (part_at at done k, get_or-take size (drop done bytes) k 0 small, get_or-drop done bytes k 0) (stand (done + k) (omega arith))
-
--- what was put before, and the piece
-pub more_put : (old mid new : Option (List ℕ)) (bytes : List ℕ) (done size : ℕ) → Appends old mid (take done bytes) → Appends mid new (take size (drop done bytes)) → Appends old new (take (done + size) bytes)
-more_put None mid new bytes done size a b = tt
-more_put (Some xs) (Some ys) (Some zs) bytes done size a b = b ∙ ap (λ v. v ++ take size (drop done bytes)) a ∙ append_assoc xs (take done bytes) (take size (drop done bytes)) ∙ ap (λ v. xs ++ v) (sym (take-add done size bytes))
-more_put (Some xs) None new bytes done size a b = elim a [ ]
-more_put (Some xs) (Some ys) None bytes done size a b = elim b [ ]
 
 pub prefix_put : (old mid new : Option (List ℕ)) (bytes : List ℕ) (done size : ℕ) → done + size ≤ length bytes → Appends old mid (take done bytes) → AppendsPrefix mid new (take size (drop done bytes)) → AppendsPrefix old new bytes
 prefix_put old mid new bytes done size le a (n, short, b) =

@@ -8,7 +8,7 @@ use Rattle.machine_calls.specs.declared.phase.Phase.{Phase}
 use Rattle.machine_calls.specs.declared.phase.Phase.TheVariants.{Going, Waiting, Over}
 use Rattle.machine_calls.specs.Calls.{HasBuffer as KeepsBuffer, listed_as, listed_call, has_right}
 use Rattle.machine_calls.specs.Phases.{IsReady, IsWaiting, is_waiting, phase_of, ShownBy, Tells as TellsEvent}
-use Rattle.runner.specs.Prelude.{Describes, Tells, IsHeld, HasBuffer, is_asked}
+use Rattle.runner.specs.Prelude.{Describes, Tells, IsHeld, is_asked}
 use Rattle.runner.proofs.Called.{described_write}
 
 pub free : (phase : Phase) → is_waiting phase ≡ false → IsWaiting phase → ⊥

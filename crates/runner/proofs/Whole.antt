@@ -1,5 +1,5 @@
 -- There is one run in which every call moves all that it can.
-use Rattle.std.proofs.Common.{◌≡◌, ℕ, zero, suc, false, ◌&&◌, List, [], ◌∷◌, ◌++◌, Option, Some, None, refl, sym, ap, ◌∙◌, arith}
+use Rattle.std.proofs.Common.{◌≡◌, ℕ, zero, suc, ◌&&◌, List, [], ◌∷◌, ◌++◌, Option, Some, None, refl, sym, ap, ◌∙◌, arith}
 use Rattle.machines.specs.Prelude.{End, ListedCall, AnswerValue, one_if, Outcome, Goes, Asks, Ends, run, reported}
 use Rattle.outside.specs.Causes.{Rose}
 use Rattle.runner.specs.Prelude.{Stream, Input, Output, Errors, Bytes, Extent, Full, Faulted, Transfer, faults_on, is_same, is_faulted, IsAnswered, IsAnsweredOn, IsTransferred, AreAnswered, AreWhole, HasWholeRun, stream_of, Streams, RoseBy, HasCounted}

@@ -3,7 +3,7 @@ use Rattle.std.proofs.Common.{◌≡◌, ◌≢◌, ℕ, zero, suc, ◌+◌, ◌
 use Rattle.std.proofs.lemmas.Bool.{cases_lt}
 use Rattle.space.specs.declared.call.End.TheVariants.{Running, Outside, Dry}
 use Rattle.space.specs.Reports.{AnswerValue, ended, listed, going_on}
-use Rattle.runs.specs.Prelude.{Outcome, run, After, Along, Anywhere, Walks, onward, called, over, lost}
+use Rattle.runs.specs.Prelude.{Outcome, run, After, Along, Anywhere, onward, called, over, lost}
 use Rattle.runs.specs.Simulation as kinds
 use Rattle.runs.proofs.Walking.{run_walk, along_walk, run_within, run_end, run_dry, run_ask}
 

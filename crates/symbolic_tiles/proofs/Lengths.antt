@@ -1,7 +1,7 @@
 -- How many bytes the ops of tiles have, and how many ops there are.
-use Rattle.std.proofs.Common.{◌≡◌, ℕ, ◌+◌, ◌*◌, ◌≤◌, Bool, true, false, List, [], ◌∷◌, ◌++◌, length, map, Option, Some, None, refl, sym, ap, arith}
-use Rattle.machines.specs.Prelude.{Map, AluOp, Operand, Reg, Abs, Op, Unary, MovTo, MovToImm, Imul, Bsr, spelling}
-use Rattle.reg_map.specs.Prelude.{slot_of, place, place_in, mov_from, alu_from}
+use Rattle.std.proofs.Common.{◌≡◌, ℕ, ◌+◌, ◌*◌, ◌≤◌, List, [], ◌∷◌, ◌++◌, length, Option, Some, None, arith}
+use Rattle.machines.specs.Prelude.{Map, Operand, Reg, Abs, Op, Unary, MovTo, MovToImm, Imul, Bsr, spelling}
+use Rattle.reg_map.specs.Prelude.{slot_of, place_in, mov_from, alu_from}
 use Rattle.symbolic_tiles.specs.Prelude.{SymbolicOperand, Temporary, Location, Byte, Half, Word, SymbolicOp, Mov, MovImmediate, Put, PutImmediate, Alu, AluImmediate, Test, TestImmediate, Invert, Negate, Multiply, MultiplyWide, Divide, ShiftBy, ShiftCl, Widen, SwapBytes, MoveIf, Scan, Signs, FetchByte, PutByte, SetByte, Load, Store, operand_of, wide_op, op_of, ops_of, TileItem, Do, JumpIf, Label, LoadEbx, BranchTo, BranchIndirect, Interrupt, Trap, Undefined, flow_of, flows_of, doing, flow_room, flows_room, most_bytes, room_of, spelled_bytes}
 
 -- an op with an operand has no more bytes than with a home

@@ -1,5 +1,5 @@
 -- Tiles of forms that give one result, and may put CA and record.
-use Rattle.std.proofs.Common.{◌≡◌, ℕ, ◌^◌, ◌<◌, ◌≤◌, Bool, true, false, eqb, List, [], ◌∷◌, ◌++◌, length, drop, Option, Some, None, bit_and, refl, sym, ap, ◌∙◌, subst, arith}
+use Rattle.std.proofs.Common.{◌≡◌, ℕ, ◌^◌, ◌<◌, ◌≤◌, Bool, true, false, eqb, List, [], ◌∷◌, ◌++◌, drop, Option, Some, None, bit_and, refl, sym, ap, ◌∙◌, subst, arith}
 use Rattle.std.proofs.lemmas.Bool.Decides.{nat_tests}
 use Rattle.symbolic_tiles.proofs.Lengths.{room_append}
 use Rattle.machines.specs.Prelude.{one_if, Instr, IsLegal, Less, Flags, condition_holds, logic_flags, Goes, update, Rights, Guest, effect_of, guest_acts, at_next, results, Choice, choice_at}

@@ -1,7 +1,7 @@
 -- Instructions that are no flow words go on to the next word, or end outside.
 use Rattle.std.proofs.Common.{◌≡◌, ℕ, zero, suc, ◌+◌, ◌%◌, ◌^◌, Bool, true, false, cond, ◌&&◌, Contains, refl, sym, subst, inl, inr}
 use Rattle.std.proofs.lemmas.Bool.{false≢true}
-use Rattle.machines.specs.Prelude.{Outside, Goes, Ends, GuestValues, Access, NoAccess, LoadAccess, StoreAccess, immediate_row, arithmetic_row, arithmetic_unary_row, logic_row, logic_unary_row, compare_immediate_row, compare_row, load_row, load_update_row, load_indexed_row, load_indexed_update_row, store_row, store_update_row, store_indexed_row, store_indexed_update_row, Instr, Immediate, LogicImmediate, Load, Store, LoadUpdate, StoreUpdate, Multiple, TrapImmediate, CompareImmediate, Rotate, Branch, BranchConditional, SystemCall, Arithmetic, ArithmeticUnary, Logic, ShiftImmediate, LogicUnary, Compare, Trap, MoveFromCr, MoveToCr, MoveFromSpr, MoveToSpr, Sync, LoadIndexed, StoreIndexed, LoadIndexedUpdate, StoreIndexedUpdate, MoveCrField, CrLogic, Isync, BranchRegister, Lmw, Stmw, each_byte, Rights, Guest, effect_of}
+use Rattle.machines.specs.Prelude.{Outside, Goes, Ends, GuestValues, Access, NoAccess, LoadAccess, StoreAccess, immediate_row, arithmetic_row, arithmetic_unary_row, logic_row, logic_unary_row, compare_immediate_row, compare_row, load_row, load_update_row, load_indexed_row, load_indexed_update_row, store_row, store_update_row, store_indexed_row, store_indexed_update_row, Instr, Immediate, Load, Store, LoadUpdate, StoreUpdate, Multiple, TrapImmediate, CompareImmediate, Branch, BranchConditional, SystemCall, Arithmetic, ArithmeticUnary, Logic, LogicUnary, Compare, Trap, LoadIndexed, StoreIndexed, LoadIndexedUpdate, StoreIndexedUpdate, BranchRegister, Lmw, Stmw, each_byte, Rights, Guest, effect_of}
 use Rattle.machines.specs.Prelude as word
 use Rattle.row_laws.proofs.Lists.{none_in, first_or_later}
 use Rattle.symbolic_tiles.specs.Prelude.{span, loaded, stored, WritesHeld, IsStraight, RowsAreStraight, AccessIsInside, AccessesAreInside}

@@ -2,9 +2,10 @@ use Rattle.std.proofs.Common.{rules, ◌≡◌, ◌<◌, ◌*◌, ◌∙◌, Lis
 use Rattle.space.specs.declared.program.Segment.{Segment}
 use Rattle.std.specs.List.{All}
 use Rattle.elf_emit.specs.Prelude.{home_segment, table_segment, table_bytes, code_segment}
-use Rattle.elf_emit.proofs.Loadable.{length_home_page, length_of_table}
+use Rattle.elf_emit.proofs.Loadable.{length_home_page}
 use Rattle.elf_emit.proofs.WholeFile.{segments_short, is_whole, parts_of_file}
 use Rattle.elf_emit.proofs.translation.file_parts.Goals as goal
+use Rattle.branch_table.proofs.Words.{length_of_table}
 
 pub source_parts-requires : goal.source_parts-requires
 source_parts-requires c =

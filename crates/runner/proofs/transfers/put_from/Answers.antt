@@ -1,8 +1,9 @@
 use Rattle.std.proofs.Common.{arith, false, ◌≡◌, ◌+◌, ◌≤◌, ◌∙◌, length, take, drop}
 use Rattle.std.proofs.lemmas.Grind.{common_steps}
 use Rattle.std.proofs.lemmas.List.{length-take-le}
-use Rattle.runner.proofs.Pieces.{permitted_part, length_part, part_stands, more_put, prefix_put}
+use Rattle.runner.proofs.Pieces.{permitted_part, length_part, part_stands, prefix_put}
 use Rattle.runner.proofs.transfers.put_from.Goals as goal
+use Rattle.outside.proofs.Appending.{appends_two as more_put}
 
 pub put_piece-requires : goal.put_piece-requires
 put_piece-requires g c k lt =
