@@ -6,7 +6,7 @@ use Rattle.std.specs.Int.{next_multiple_of}
 use Rattle.std.proofs.lemmas.Bool.Decides.{nat_tests}
 use Rattle.std.proofs.lemmas.List.{get_or-drop, get_or-take}
 use Rattle.byteorder.specs.Endian.{IsRead, big_number}
-use Rattle.machines.specs.Prelude.{Program, Code, code_of, code_byte, is_code_word, word_at}
+use Rattle.machines.specs.Prelude.{Program, Code, code_of, code_byte, is_code_word, word_of_code}
 use Rattle.code_words.specs.Words.{HasWords, first_of}
 
 -- what a code word's address is like
@@ -43,7 +43,7 @@ module _ (code : Code) (first before size : ℕ) (words : List ℕ) (start : fir
       ∙ get_or-drop before code.bytes (4 * k + i) 0
       ∙ ap (λ j. get_or code.bytes j 0) place
 
-  word : (k : ℕ) → k < length words → word_at code (first + 4 * k) ≡ slice_index words k
+  word : (k : ℕ) → k < length words → word_of_code code (first + 4 * k) ≡ slice_index words k
   word k lt =
       let zeroth : slice_index (drop (4 * k) (take size (drop before code.bytes))) 0 ≡ code_byte code (first + 4 * k) =
       byte k 0 (omega arith) ∙ ap (code_byte code) (omega arith) in
@@ -70,7 +70,7 @@ module _ (code : Code) (first before size : ℕ) (words : List ℕ) (start : fir
       aligned = (first_is code.at first start).0;
       low = omega arith;
       here = λ k lt. ap (λ (c : Code). is_code_word c (first + 4 * k)) e ∙ here k lt;
-      each = λ k lt. ap (λ (c : Code). word_at c (first + 4 * k)) e ∙ word k lt;
+      each = λ k lt. ap (λ (c : Code). word_of_code c (first + 4 * k)) e ∙ word k lt;
       only = λ a is. only a (sym (ap (λ (c : Code). is_code_word c a) e) ∙ is);
     }
 

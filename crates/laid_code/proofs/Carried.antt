@@ -3,7 +3,7 @@ use Rattle.std.proofs.Common.{◌≡◌, ℕ, zero, suc, ◌+◌, ◌*◌, ◌-�
 use Rattle.std.proofs.lemmas.Bool.{false≢true, cases_lt, eqb-true}
 use Rattle.std.proofs.lemmas.Bool.Decides.{nat_tests}
 use Rattle.std.proofs.lemmas.List.{append-nil, get_or_default, get_or_past, length-take, length-drop}
-use Rattle.machines.specs.Prelude.{Outside, Program, Instr, spelling, Jmp, Ends, rights_of, code_of, Fetched, ReadsWords, ReadsOps, behind, is_code_word, word_at, guest_executes}
+use Rattle.machines.specs.Prelude.{Outside, Program, Instr, spelling, Jmp, Ends, rights_of, code_of, Fetched, ReadsWords, ReadsOps, behind, is_code_word, word_of_code, guest_executes}
 use Rattle.block_find.specs.Prelude.{address_of, all_blocks, block_at, IsBlockAt, EachIsBlock}
 use Rattle.block_find.specs.declared.block.Block.{Block}
 use Rattle.symbolic_tiles.proofs.PlaceLaws.{programs_write_held}
@@ -130,9 +130,9 @@ module _ (Q : Program) (first entry : ℕ) (words : List ℕ) (area : ℕ) (tabl
 
     word_at : (k : ℕ) → k < length words → IsWordAt s (address_of first k) (decoded_at decoded k)
     word_at k lt g at =
-        let read : reading (word_at (code_of P) (address_of first k)) ≡ decoded_at decoded k = ap reading (has.each k lt) ∙ read_as (slice_index words k) (decoded_at decoded k) (carried.code.are_decoded.each k lt) in
-        ap (λ (a : ℕ). cond (is_code_word (code_of P) a) (guest_executes (rights_of P) (reading (word_at (code_of P) a)) g) (Ends Outside)) at
-        ∙ ap (λ (b : Bool). cond b (guest_executes (rights_of P) (reading (word_at (code_of P) (address_of first k))) g) (Ends Outside)) (has.here k lt)
+        let read : reading (word_of_code (code_of P) (address_of first k)) ≡ decoded_at decoded k = ap reading (has.each k lt) ∙ read_as (slice_index words k) (decoded_at decoded k) (carried.code.are_decoded.each k lt) in
+        ap (λ (a : ℕ). cond (is_code_word (code_of P) a) (guest_executes (rights_of P) (reading (word_of_code (code_of P) a)) g) (Ends Outside)) at
+        ∙ ap (λ (b : Bool). cond b (guest_executes (rights_of P) (reading (word_of_code (code_of P) (address_of first k))) g) (Ends Outside)) (has.here k lt)
         ∙ ap (λ (o : Option Instr). guest_executes (rights_of P) o g) read
 
     -- from each code word on the words stand as they are decoded
@@ -202,8 +202,8 @@ module _ (Q : Program) (first entry : ℕ) (words : List ℕ) (area : ℕ) (tabl
 
     off_code : (w : ℕ) → is_code_word (code_of P) w ≡ false → IsOffCode s w
     off_code w off g at =
-        ap (λ (a : ℕ). cond (is_code_word (code_of P) a) (guest_executes (rights_of P) (reading (word_at (code_of P) a)) g) (Ends Outside)) at
-        ∙ ap (λ (b : Bool). cond b (guest_executes (rights_of P) (reading (word_at (code_of P) w)) g) (Ends Outside)) off
+        ap (λ (a : ℕ). cond (is_code_word (code_of P) a) (guest_executes (rights_of P) (reading (word_of_code (code_of P) a)) g) (Ends Outside)) at
+        ∙ ap (λ (b : Bool). cond b (guest_executes (rights_of P) (reading (word_of_code (code_of P) w)) g) (Ends Outside)) off
 
     to_hold : (w : ℕ) → is_code_word (code_of P) w ≡ false → targets w ≡ code_start area
     to_hold w off =

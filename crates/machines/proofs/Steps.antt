@@ -1,6 +1,6 @@
 -- Steps of the guest at code words of each kind.
 use Rattle.std.proofs.Common.{◌≡◌, ℕ, suc, ◌+◌, ◌%◌, ◌^◌, Bool, true, false, cond, ◌&&◌, eqb, ltb, List, [], ◌∷◌, Option, Some, None, refl, ap, ◌∙◌, arith}
-use Rattle.machines.specs.Prelude.{Program, Outside, Dry, Illegal, End, ListedCall, AnswerValue, Report, given, ended, listed, Goes, Ends, Instr, Immediate, Arithmetic, Branch, SystemCall, Addi, Add, IsWordOf, Allowed, layout, Field, word, Fit, sign_extended, rights_of, code_of, ReadsWords, Guest, guest_machine, guest_acts, guest_executes, effect_of, is_code_word, word_at, branch_target, writes, guest_system_call, after_guest_call, guest_asks as asks_for}
+use Rattle.machines.specs.Prelude.{Program, Outside, Dry, Illegal, End, ListedCall, AnswerValue, Report, given, ended, listed, Goes, Ends, Instr, Immediate, Arithmetic, Branch, SystemCall, Addi, Add, IsWordOf, Allowed, layout, Field, word, Fit, sign_extended, rights_of, code_of, ReadsWords, Guest, guest_machine, guest_acts, guest_executes, effect_of, is_code_word, word_of_code, branch_target, writes, guest_system_call, after_guest_call, guest_asks as asks_for}
 use Rattle.ppc_isa.specs.Reading.{read}
 use Rattle.ppc_isa.proofs.ReadWords.{read_legal}
 use Rattle.machines.proofs.Tests.{first_of_both, second_of_both, below}
@@ -8,7 +8,7 @@ use Rattle.machines.proofs.Traces.{Trace, ends, goes, asks, dries, Silent, last,
 
 -- the word at the next address
 abbrev pub here : Program → Guest → ℕ
-here p g = word_at (code_of p) g.next
+here p g = word_of_code (code_of p) g.next
 
 module _ {words : ℕ → Option Instr} (reads : ReadsWords words) (p : Program) (g : Guest) where
   -- the step from a code word that is an instruction's

@@ -315,12 +315,12 @@ abbrev pub is_code_word : Code → ℕ → Bool
 is_code_word code a = eqb (a % 4) 0 && leb code.at a && leb (a + 4) (code.at + length code.bytes)
 
 -- its highest byte stands first
-abbrev pub word_at : Code → ℕ → ℕ
-word_at code a = code_byte code a * 2 ^ 24 + code_byte code (a + 1) * 2 ^ 16 + code_byte code (a + 2) * 2 ^ 8 + code_byte code (a + 3)
+abbrev pub word_of_code : Code → ℕ → ℕ
+word_of_code code a = code_byte code a * 2 ^ 24 + code_byte code (a + 1) * 2 ^ 16 + code_byte code (a + 2) * 2 ^ 8 + code_byte code (a + 3)
 
 -- one step: the word at the next address is fetched, read and executed
 abbrev pub guest_step : Rights → Code → (ℕ → Option Instr) → Guest → Outcome Guest
-guest_step rights code reading g = cond (is_code_word code g.next) (guest_executes rights (reading (word_at code g.next)) g) (Ends Outside)
+guest_step rights code reading g = cond (is_code_word code g.next) (guest_executes rights (reading (word_of_code code g.next)) g) (Ends Outside)
 
 -- r1 at the start: the end of the stack segment, less 64 bytes
 abbrev pub stack_start : ℕ

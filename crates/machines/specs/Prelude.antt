@@ -114,7 +114,7 @@ pub use Rattle.ia_codec.specs.Registers.{eax, ebx, ecx, edi, edx, esi}
 pub use Rattle.machines.specs.Memory.{Code, Rights, code_byte, code_in, code_of, is_code, is_within, rights_of, update}
 unfoldable pub use Rattle.machines.specs.Memory.{block, each_byte, first_bytes, is_held, is_writable, load, load_big, put_block, store, store_big}
 pub use Rattle.machines.specs.Readings.{Fetched, ReadsOps}
-pub use Rattle.machines.specs.Guest.{Guest, after_guest_call, at_next, behind, branch_target, branches, compare_word, cr_word, ctr, effect_of, guest_acts, guest_asks, guest_executes, guest_machine, guest_start, guest_system_call, guest_values, immediate_word, is_code_word, linked, load_outcome, loaded_by, loaded_in, logic_word, lr, put_cr, put_loaded, put_special, put_xer, puts_cr, puts_xer, register_target, results, rotate_register, stack_start, store_outcome, value_a, value_b, value_s, with_so, without_so, word_at, writes, xer_word}
+pub use Rattle.machines.specs.Guest.{Guest, after_guest_call, at_next, behind, branch_target, branches, compare_word, cr_word, ctr, effect_of, guest_acts, guest_asks, guest_executes, guest_machine, guest_start, guest_system_call, guest_values, immediate_word, is_code_word, linked, load_outcome, loaded_by, loaded_in, logic_word, lr, put_cr, put_loaded, put_special, put_xer, puts_cr, puts_xer, register_target, results, rotate_register, stack_start, store_outcome, value_a, value_b, value_s, with_so, without_so, word_of_code, writes, xer_word}
 unfoldable pub use Rattle.machines.specs.Guest.{store_registers}
 pub use Rattle.machines.specs.Host.{Choice, Core, Host, Place, Register, address_in, after_host_call, bind, byte_for, changes, choice_at, chosen_flags, chosen_word, divides, does, extend_size, faults_on, gives_to, goes_to, has_result, host_acts, host_asks, host_executes, host_machine, host_start, host_step, host_system_call, host_values, jumps, jumps_to, leaves, multiplies, no_choice, op_bytes, place_of, plain, put_at, puts, puts_both, reads, sets, sets_byte, unary_acts, unary_does, value_at}
 pub use Rattle.machines.specs.Agreement.{AgreesNarrowly, AgreesWith, IsClean, fetched_apart, is_apart, narrow_machine, reads_apart, without}

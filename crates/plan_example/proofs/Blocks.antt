@@ -1,7 +1,7 @@
 -- The blocks, the adapter and the table of the example.
 use Rattle.std.proofs.Common.{◌≡◌, ◌≢◌, ℕ, zero, suc, ◌^◌, ◌<◌, ◌≤◌, ◌⊎◌, inl, inr, Bool, true, false, cond, eqb, List, [], ◌∷◌, length, Option, Some, None, Contains, refl, sym, ap, ◌∙◌, subst, arith}
 use Rattle.std.proofs.lemmas.Bool.{eqb-true, ne_eqb, false≢true}
-use Rattle.machines.specs.Prelude.{Instr, Map, IsMap, IsWordOf, IsReg, AluImm, MovTo, MovFrom, Add, Reg, Abs, ebx, esi, rights_of, code_of, Fetched, ReadsWords, ReadsOps, behind, is_code_word, word_at, guest_executes, Op, Guest}
+use Rattle.machines.specs.Prelude.{Instr, Map, IsMap, IsWordOf, IsReg, AluImm, MovTo, MovFrom, Add, Reg, Abs, ebx, esi, rights_of, code_of, Fetched, ReadsWords, ReadsOps, behind, is_code_word, word_of_code, guest_executes, Op, Guest}
 use Rattle.reg_map.specs.Prelude.{slot_of, IsHomePage}
 use Rattle.base_alu.specs.Tile.{tile as alu_tile}
 use Rattle.base_flow.specs.Prelude.{tile as flow_tile}
@@ -101,7 +101,7 @@ module _ (reading : ℕ → Option Instr) (ops : List ℕ → Option Fetched) (r
       by_test false e = (omega arith, (drop_ebx next, (stores_placeable 3 reg_3, tt), sym (ap (λ (b : Bool). cond b in_ebx no_registers) e)))
 
   -- a base tile of an addi
-  one_right : (w n word : ℕ) (steps : List PlanStep) → n < 2 ^ 16 → is_code_word (code_of program) w ≡ true → word_at (code_of program) w ≡ word → IsWordOf word (adds n) → AreRight (s reading ops) no_registers (behind w) steps → AreRight (s reading ops) no_registers w (one n ∷ steps)
+  one_right : (w n word : ℕ) (steps : List PlanStep) → n < 2 ^ 16 → is_code_word (code_of program) w ≡ true → word_of_code (code_of program) w ≡ word → IsWordOf word (adds n) → AreRight (s reading ops) no_registers (behind w) steps → AreRight (s reading ops) no_registers w (one n ∷ steps)
   one_right w n word steps small on is of right = (
     straight_tile (s reading ops) (programs_write_held program) (adds n) (straight_adds n small) w (word_at reading ops reads_words w word (adds n) on is of),
     tile_placeable n small,

@@ -1,7 +1,7 @@
 -- The context of the program and its translation.
 use Rattle.std.proofs.Common.{◌≡◌, ℕ, ◌+◌, ◌^◌, ◌-◌, ◌<◌, Bool, true, false, cond, eqb, List, [], ◌++◌, length, Option, Some, refl, sym, ap, ◌∙◌, subst, arith}
 use Rattle.std.proofs.lemmas.List.{append-nil, length-append}
-use Rattle.machines.specs.Prelude.{Outside, Instr, IsWordOf, spelling, Jmp, Ends, rights_of, code_of, Fetched, ReadsWords, ReadsOps, is_code_word, word_at, guest_executes}
+use Rattle.machines.specs.Prelude.{Outside, Instr, IsWordOf, spelling, Jmp, Ends, rights_of, code_of, Fetched, ReadsWords, ReadsOps, is_code_word, word_of_code, guest_executes}
 use Rattle.code_layout.specs.Prelude.{items_length}
 use Rattle.simulation.specs.Prelude.{SimulationContext, IsWordAt, IsOffCode, JumpsTo}
 use Rattle.laid_code.specs.Prelude.{HasBytes, RunsCode, context_of, ArePlaced, plan_items}
@@ -63,16 +63,16 @@ module _ (reading : ℕ → Option Instr) (ops : List ℕ → Option Fetched) wh
   s = context_of interface target reading ops program translation first area entries
 
   -- a word at an address of the code
-  pub word_at : ReadsWords reading → (w n : ℕ) (i : Instr) → is_code_word (code_of program) w ≡ true → word_at (code_of program) w ≡ n → IsWordOf n i → IsWordAt s w (Some i)
+  pub word_at : ReadsWords reading → (w n : ℕ) (i : Instr) → is_code_word (code_of program) w ≡ true → word_of_code (code_of program) w ≡ n → IsWordOf n i → IsWordAt s w (Some i)
   word_at reads w n i on is word g at =
-      ap (λ (a : ℕ). cond (is_code_word (code_of program) a) (guest_executes (rights_of program) (reading (word_at (code_of program) a)) g) (Ends Outside)) at
-      ∙ ap (λ (b : Bool). cond b (guest_executes (rights_of program) (reading (word_at (code_of program) w)) g) (Ends Outside)) on
+      ap (λ (a : ℕ). cond (is_code_word (code_of program) a) (guest_executes (rights_of program) (reading (word_of_code (code_of program) a)) g) (Ends Outside)) at
+      ∙ ap (λ (b : Bool). cond b (guest_executes (rights_of program) (reading (word_of_code (code_of program) w)) g) (Ends Outside)) on
       ∙ ap (λ (o : Option Instr). guest_executes (rights_of program) o g) (ap reading is ∙ reads.only n i word)
 
   pub off_code : (w : ℕ) → is_code_word (code_of program) w ≡ false → IsOffCode s w
   off_code w off g at =
-      ap (λ (a : ℕ). cond (is_code_word (code_of program) a) (guest_executes (rights_of program) (reading (word_at (code_of program) a)) g) (Ends Outside)) at
-      ∙ ap (λ (b : Bool). cond b (guest_executes (rights_of program) (reading (word_at (code_of program) w)) g) (Ends Outside)) off
+      ap (λ (a : ℕ). cond (is_code_word (code_of program) a) (guest_executes (rights_of program) (reading (word_of_code (code_of program) a)) g) (Ends Outside)) at
+      ∙ ap (λ (b : Bool). cond b (guest_executes (rights_of program) (reading (word_of_code (code_of program) w)) g) (Ends Outside)) off
 
   pub low_target : (w : ℕ) → target w < 2 ^ 32
   low_target w = by_tests (eqb w 0x10000) (eqb w 0x10004) (eqb w 0x10008) (eqb w 0x1000C)

@@ -1,7 +1,7 @@
 -- The words of the program.
 use Rattle.std.proofs.Common.{◌≡◌, ℕ, zero, suc, ◌+◌, ◌*◌, ◌^◌, ◌<◌, ◌⊎◌, inl, inr, true, slice_index, refl, arith}
 use Rattle.std.proofs.lemmas.Bool.Decides.{nat_tests}
-use Rattle.machines.specs.Prelude.{IsLegal, IsWordOf, code_of, is_code_word, word_at}
+use Rattle.machines.specs.Prelude.{IsLegal, IsWordOf, code_of, is_code_word, word_of_code}
 use Rattle.code_words.specs.Words.{HasWords}
 use Rattle.plan_example.specs.Example.{program, words, adds, back}
 
@@ -34,7 +34,7 @@ here (suc (suc zero)) lt = refl
 here (suc (suc (suc zero))) lt = refl
 here (suc (suc (suc (suc k)))) lt = absurd (omega arith)
 
-each : (k : ℕ) → k < 4 → word_at (code_of program) (0x10000 + 4 * k) ≡ slice_index words k
+each : (k : ℕ) → k < 4 → word_of_code (code_of program) (0x10000 + 4 * k) ≡ slice_index words k
 each zero lt = refl
 each (suc zero) lt = refl
 each (suc (suc zero)) lt = refl

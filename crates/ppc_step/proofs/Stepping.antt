@@ -1,6 +1,6 @@
 -- A step of the state, and of the machine.
 use Rattle.std.proofs.Common.{◌≡◌, ℕ, true, Option, Some, None, refl, sym, ◌∙◌, ap, subst}
-use Rattle.machines.specs.Prelude.{Event, Went, Asked, Ended, Illegal, Program, code_word as kept_word, Outcome, Instr, IsWordOf, rights_of, code_of, ReadsWords, Guest, is_code_word, word_at, effect_of, guest_acts, guest_machine}
+use Rattle.machines.specs.Prelude.{Event, Went, Asked, Ended, Illegal, Program, code_word as kept_word, Outcome, Instr, IsWordOf, rights_of, code_of, ReadsWords, Guest, is_code_word, word_of_code, effect_of, guest_acts, guest_machine}
 use Rattle.ppc_step.specs.Prelude.{State, IsState, IsAsking, IsDone, Leads, Shows, IsTold}
 use Rattle.machine_calls.specs.declared.phase.Phase.{Phase}
 use Rattle.machine_calls.specs.declared.phase.Phase.TheVariants.{Going, Waiting, Over}
@@ -13,8 +13,8 @@ module _ (p : Program) (words : ℕ → Option Instr) (reads : ReadsWords words)
     here : is_code_word (code_of p) g.next ≡ true
     here = subst (λ a. is_code_word (code_of p) a ≡ true) is.next (word p g.bytes s.memory s.next is.memory w some).0
 
-    read : words (word_at (code_of p) g.next) ≡ words w
-    read = ap words (subst (λ a. word_at (code_of p) a ≡ w) is.next (sym (word p g.bytes s.memory s.next is.memory w some).1))
+    read : words (word_of_code (code_of p) g.next) ≡ words w
+    read = ap words (subst (λ a. word_of_code (code_of p) a ≡ w) is.next (sym (word p g.bytes s.memory s.next is.memory w some).1))
 
     -- a legal word is executed
     pub executed : (i : Instr) → IsWordOf w i → Leads p event new (guest_acts (rights_of p) i (effect_of i g) g) → Leads p event new (guest_machine words p g)
