@@ -25,3 +25,7 @@ place_in None g = Abs (gpr_home g)
 -- the place of GPR g
 abbrev pub place : Map → ℕ → Operand
 place m g = place_in (slot_of m g) g
+
+-- the map that holds no GPR
+abbrev pub IsEmpty : Map → Type 0
+IsEmpty m = (m.ebx ≡ None) × (m.esi ≡ None) × (m.edi ≡ None)
