@@ -9,7 +9,7 @@ use Rattle.base_flow.specs.Prelude.{done_items, error_items, failure_items, succ
 use Rattle.reg_map.specs.Prelude.{AreInRange}
 use Rattle.symbolic_tiles.specs.Prelude.{WritesHeld, IsFree, AreItems, SymbolicState, Out, Stopped, with_given, execute}
 use Rattle.symbolic_tiles.proofs.Small.{each_true}
-use Rattle.symbolic_tiles.proofs.Places.{each_of}
+use Rattle.machines.proofs.Stack.{each_true as each_of}
 use Rattle.symbolic_tiles.proofs.Shows.{bytes_held}
 use Rattle.symbolic_tiles.proofs.Done.{state_of}
 use Rattle.symbolic_tiles.proofs.Signed.{zero_test}

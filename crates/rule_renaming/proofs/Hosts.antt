@@ -9,7 +9,7 @@ use Rattle.symbolic_tiles.specs.Prelude.{is_jump, op_outcome, core_behind, perfo
 use Rattle.rule_meaning.specs.Prelude.{Match, register_of, offset_of, placed_operand, placed, summed, op_loads, op_stores, accessed, accessed_behind}
 use Rattle.row_laws.proofs.Lists.{none_in, first_in, later_in}
 use Rattle.symbolic_tiles.proofs.Memory.{update_same, update_other, store_other, store_same}
-use Rattle.symbolic_tiles.proofs.Places.{each_of}
+use Rattle.machines.proofs.Stack.{each_true as each_of}
 
 -- both are there and R holds of them, or neither is
 abbrev pub Both : (Core → Core → Type 0) → Option Core → Option Core → Type 0
