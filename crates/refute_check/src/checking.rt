@@ -7,14 +7,14 @@ ghost use Rattle.refute_check.specs.Refutations.{StepsFollow, IsFirstBad, EndsEm
 
 use crate::CheckFault;
 use std::alloc::Global;
-use watched_literals::{Numbering, Propagator};
+use watched_literals::{Literals, Numbering, Propagator};
 use word_kit::{Clause, Formula, NoMemory, Refutation};
 
 /// The first step that doesn't follow, where literals have numbers below `room`.
 fn first_bad(
     alloc: Global,
-    formula: &[Clause],
-    steps: &[Clause],
+    formula: &[Literals],
+    steps: &[Literals],
     room: usize,
 ) -> Result<Option<usize>, NoMemory>
     requires formula { All (λ clause. All (IsWithin room) clause) formula.now }

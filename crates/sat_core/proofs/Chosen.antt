@@ -2,7 +2,7 @@
 use Rattle.std.proofs.Common.{◌≡◌, ◌⊎◌, inl, inr, ℕ, ◌<◌, ◌≤◌, ◌+◌, true, false, List, [], ◌∷◌, ◌++◌, ℤ, pos, neg_ℤ, length, take, get_or, refl, sym, subst, ap, ◌∙◌, arith, append-nil, Option, None, Some, min}
 use Rattle.std.specs.Option.{is_some}
 use Rattle.std.proofs.lemmas.Bool.{cases_lt, false≢true}
-use Rattle.std.proofs.lemmas.List.{take_more, take_all}
+use Rattle.std.proofs.lemmas.List.{take_all}
 use Rattle.std.specs.List.{Contains}
 use Rattle.std.proofs.lemmas.List.Elements.{Contains-append_left, Contains-push, Contains-push_cases}
 use Rattle.std.proofs.Math.IntN.{neg_ℤ-neg_ℤ}
@@ -12,7 +12,7 @@ use Rattle.watched_literals.specs.Propagators.{Spreads}
 use Rattle.watched_literals.specs.Propagation.{IsMadeTrue, HasConflict, without}
 use Rattle.watched_literals.specs.Propagation.IsMadeTrue.{opposite}
 use Rattle.watched_literals.specs.Trails.{AreMadeTrue, IsConsistent, Extends}
-use Rattle.watched_literals.proofs.Trails.{Contains-cons, Contains-nil, made-more, closed, no-conflict, consistent-push, extends-on}
+use Rattle.watched_literals.proofs.Trails.{Contains-cons, Contains-nil, made-more, closed, no-conflict, consistent-push, extends-on, take-item}
 use Rattle.sat_core.specs.Decisions.{IsClosedUnder, IsGained, IsAssigned, IsLiteralOf, IsVariable, Leads}
 use Rattle.sat_core.proofs.Without.{AreWithin, from-without, conflict-within}
 
@@ -129,12 +129,12 @@ leads-open room clauses decided trail literal new decided' is fresh free h f p =
 
 -- ---- literals are assumed one after the other
 
-pub literal-split : (room : ℕ) (numbers : List ℤ) (n : ℕ) (literal : ℤ) → n < length numbers → literal ≡ get_or numbers n (pos 0)
+pub literal-split : (room : ℕ) (numbers : List ℤ) (n : ℕ) (literal : ℤ) → n < length numbers → literal ≡ get_or numbers n literal
     → (x : ℤ) → IsLiteralOf room (take (n + 1) numbers) x → IsLiteralOf room (take n numbers) x ⊎ IsLiteralOf room (literal ∷ []) x
 literal-split room numbers n literal within is x m =
-    elim (Contains-push_cases (take n numbers) (get_or numbers n (pos 0)) x (subst (λ xs. Contains xs x) (take_more numbers n (pos 0) within) m.0)) [
+    elim (Contains-push_cases (take n numbers) literal x (subst (λ xs. Contains xs x) (take-item numbers n literal within is) m.0)) [
       | inl before ↦ inl (before, m.1)
-      | inr e ↦ inr ((0, omega arith, is ∙ e), m.1)
+      | inr e ↦ inr ((0, omega arith, e), m.1)
     ]
 
 pub leads-weaker : (clauses : List (List ℤ)) (wanted wanted' : ℤ → Type 0) (old new decided : List ℤ) (last : Option ℤ)

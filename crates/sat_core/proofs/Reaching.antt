@@ -99,7 +99,7 @@ pub reaches-going : (wanted : ℤ → Type 0) (a b : Search) (last : Option ℤ)
 reaches-going wanted a b None e h = h
 reaches-going wanted a b (Some last) e h = absurd (false≢true (sym e))
 
-pub reaches-next : (numbers : List ℤ) (a b c : Search) (n : ℕ) (literal : ℤ) (last : Option ℤ) → n < length numbers → literal ≡ get_or numbers n (pos 0)
+pub reaches-next : (numbers : List ℤ) (a b c : Search) (n : ℕ) (literal : ℤ) (last : Option ℤ) → n < length numbers → literal ≡ get_or numbers n literal
     → Reaches (IsLiteralOf a.propagator.trail.room (take n numbers)) a b None → Reaches (IsLiteralOf b.propagator.trail.room (literal ∷ [])) b c last
     → Reaches (IsLiteralOf a.propagator.trail.room (take (n + 1) numbers)) a c last
 reaches-next numbers a b c n literal last within is h k =

@@ -1,14 +1,13 @@
 -- Literals are left out of a clause one after the other.
 use Rattle.std.proofs.lemmas.List.Sorted.{IsPermutation-reverse, Contains-permutation}
-use Rattle.std.proofs.Common.{reverse, ◌≡◌, ◌≢◌, inl, inr, ℕ, ◌<◌, ◌≤◌, ◌+◌, Bool, true, false, List, [], ◌∷◌, ◌++◌, ℤ, length, take, sym, subst, ap, ◌∙◌, arith, pos, get_or}
-use Rattle.std.proofs.lemmas.List.{take_more}
+use Rattle.std.proofs.Common.{reverse, ◌≡◌, ◌≢◌, inl, inr, ℕ, ◌<◌, ◌≤◌, ◌+◌, Bool, true, false, List, [], ◌∷◌, ◌++◌, ℤ, length, take, sym, subst, ap, ◌∙◌, arith, get_or}
 use Rattle.std.specs.List.{Contains}
 use Rattle.std.specs.Bool.{Decides}
 use Rattle.std.proofs.lemmas.Bool.{false≢true}
 use Rattle.std.proofs.lemmas.List.Elements.{Contains-push_cases}
 use Rattle.std.proofs.Math.Seq.{take-length}
 use Rattle.watched_literals.specs.Propagation.{HasConflict, IsTautology, Follows, IsTight, without}
-use Rattle.watched_literals.proofs.Trails.{Contains-nil, made-more, same_or_not}
+use Rattle.watched_literals.proofs.Trails.{Contains-nil, made-more, same_or_not, take-item}
 use Rattle.sat_core.specs.Decisions.{IsGained}
 use Rattle.sat_core.specs.Lessons.{IsLesson}
 use Rattle.sat_core.proofs.Without.{AreWithin, from-without, to-without, without-within, without-more, tautology-more, conflict-within, follows-within}
@@ -104,28 +103,28 @@ tightened-end clauses clause last kept n low high h =
 -- ---- one literal of the clause after the other
 
 pub tightened-next_out : (clauses : List (List ℤ)) (clause : List ℤ) (last : ℤ) (n : ℕ) (kept kept' rest seen : List ℤ) (literal : ℤ) (holds : Bool)
-    → n < length clause → literal ≡ get_or clause n (pos 0) → literal ≢ last → rest ≡ without literal kept → seen ≡ rest
+    → n < length clause → literal ≡ get_or clause n literal → literal ≢ last → rest ≡ without literal kept → seen ≡ rest
     → Decides holds (Follows clauses seen) → holds ≡ true → kept' ≡ rest → IsTightened clauses clause last (take n clause) kept
     → IsTightened clauses clause last (take (n + 1) clause) kept'
 tightened-next_out clauses clause last n kept kept' rest seen literal holds within is ne e f d y g h =
-    subst (λ done. IsTightened clauses clause last done kept') (sym (take_more clause n (pos 0) within ∙ ap (λ l. take n clause ++ l ∷ []) (sym is)))
+    subst (λ done. IsTightened clauses clause last done kept') (sym (take-item clause n literal within is))
     (subst (IsTightened clauses clause last (take n clause ++ literal ∷ [])) (sym (g ∙ e))
     (tightened-out clauses clause last (take n clause) kept literal ne (subst (Follows clauses) (f ∙ e) (d.0 y)) h))
 
 pub tightened-next_stays : (clauses : List (List ℤ)) (clause : List ℤ) (last : ℤ) (n : ℕ) (kept kept' rest seen : List ℤ) (literal : ℤ) (holds : Bool)
-    → n < length clause → literal ≡ get_or clause n (pos 0) → rest ≡ without literal kept → seen ≡ rest
+    → n < length clause → literal ≡ get_or clause n literal → rest ≡ without literal kept → seen ≡ rest
     → Decides holds (Follows clauses seen) → holds ≡ false → kept' ≡ kept → IsTightened clauses clause last (take n clause) kept
     → IsTightened clauses clause last (take (n + 1) clause) kept'
 tightened-next_stays clauses clause last n kept kept' rest seen literal holds within is e f d y g h =
-    subst (λ done. IsTightened clauses clause last done kept') (sym (take_more clause n (pos 0) within ∙ ap (λ l. take n clause ++ l ∷ []) (sym is)))
+    subst (λ done. IsTightened clauses clause last done kept') (sym (take-item clause n literal within is))
     (subst (IsTightened clauses clause last (take n clause ++ literal ∷ [])) (sym g)
     (tightened-stays clauses clause last (take n clause) kept literal
     (λ ne follows. false≢true (sym y ∙ d.1 (subst (Follows clauses) (sym (f ∙ e)) follows))) h))
 
 pub tightened-next_last : (clauses : List (List ℤ)) (clause : List ℤ) (last : ℤ) (n : ℕ) (kept kept' : List ℤ) (literal : ℤ)
-    → n < length clause → literal ≡ get_or clause n (pos 0) → literal ≡ last → kept' ≡ kept → IsTightened clauses clause last (take n clause) kept
+    → n < length clause → literal ≡ get_or clause n literal → literal ≡ last → kept' ≡ kept → IsTightened clauses clause last (take n clause) kept
     → IsTightened clauses clause last (take (n + 1) clause) kept'
 tightened-next_last clauses clause last n kept kept' literal within is e g h =
-    subst (λ done. IsTightened clauses clause last done kept') (sym (take_more clause n (pos 0) within ∙ ap (λ l. take n clause ++ l ∷ []) (sym is)))
+    subst (λ done. IsTightened clauses clause last done kept') (sym (take-item clause n literal within is))
     (subst (IsTightened clauses clause last (take n clause ++ literal ∷ [])) (sym g)
     (tightened-stays clauses clause last (take n clause) kept literal (λ ne follows. ne e) h))

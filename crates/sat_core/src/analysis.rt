@@ -3,7 +3,7 @@
 
 use crate::order::Order;
 use std::alloc::Global;
-use watched_literals::Propagator;
+use watched_literals::{Literal, Propagator};
 use word_kit::NoMemory;
 
 /// Places of a trail that are marked, and how many of them belong to the last level.
@@ -17,9 +17,9 @@ struct Marks {
 
 impl Marks {
     /// Marks the places at which the literals of the clause became false, unless that was at the root.
-    fn mark(&mut self, clause: &[i32], propagator: &Propagator, order: &mut Order) {
+    fn mark(&mut self, clause: &[Literal], propagator: &Propagator, order: &mut Order) {
         for literal in clause {
-            if let Some(place) = propagator.place_of(literal.wrapping_neg()) {
+            if let Some(place) = propagator.place_of(literal.opposite()) {
                 if place >= self.root && place < self.marked.len() && !self.marked[place] {
                     self.marked[place] = true;
                     order.bump(*literal);
@@ -45,7 +45,7 @@ impl Marks {
     }
 
     /// The literals of the marked places.
-    fn literals(&self, alloc: Global, propagator: &Propagator) -> Result<Vec<i32>, NoMemory> {
+    fn literals(&self, alloc: Global, propagator: &Propagator) -> Result<Vec<Literal>, NoMemory> {
         let mut literals = Vec::new(alloc);
         for (place, mark) in self.marked.as_slice().iter().enumerate() {
             if *mark {
@@ -66,7 +66,7 @@ pub fn analyze(
     root: usize,
     level: usize,
     order: &mut Order,
-) -> Result<Vec<i32>, NoMemory> {
+) -> Result<Vec<Literal>, NoMemory> {
     let marked = vec![in alloc; false; propagator.len()]?;
     let end = marked.len();
     let mut marks = Marks {

@@ -8,11 +8,11 @@ ghost use Rattle.sat_core.specs.Decisions.{IsGained};
 ghost use Rattle.sat_core.specs.Lessons.{IsLesson};
 
 use std::alloc::Global;
-use watched_literals::Propagator;
+use watched_literals::{Literal, Propagator};
 use word_kit::NoMemory;
 
 /// The clause without this literal.
-fn without(alloc: Global, clause: &[i32], literal: i32) -> Result<Vec<i32>, NoMemory>
+fn without(alloc: Global, clause: &[Literal], literal: Literal) -> Result<Vec<Literal>, NoMemory>
     ensures { IfOk result (λ rest. rest.items ≡ without literal clause.now) }
 {
     let mut rest = Vec::new(alloc);
@@ -29,9 +29,9 @@ fn without(alloc: Global, clause: &[i32], literal: i32) -> Result<Vec<i32>, NoMe
 pub fn minimize(
     alloc: Global,
     propagator: &mut Propagator,
-    clause: &[i32],
-    last: i32,
-) -> Result<Vec<i32>, NoMemory>
+    clause: &[Literal],
+    last: Literal,
+) -> Result<Vec<Literal>, NoMemory>
     requires ready { (known : List (List ℤ)) × IsReady known propagator.old × IsGained known clause.now last }
     requires within { All (IsWithin propagator.old.trail.room) clause.now }
     ensures room { OnOk result (propagator.new.trail.room ≡ propagator.old.trail.room) }

@@ -1,6 +1,7 @@
 //! In which order variables are decided, and which value is tried first. No promise rests on it.
+use crate::search::LAST_VARIABLE;
 use std::alloc::Global;
-use watched_literals::Propagator;
+use watched_literals::{Literal, Propagator};
 use word_kit::NoMemory;
 
 /// What a conflict adds to the score of each variable that it was found by.
@@ -14,7 +15,7 @@ const DECAY_INTERVAL: usize = 40;
 #[derive(Clone, Copy)]
 struct Preference {
     score: u64,
-    literal: i32,
+    literal: Literal,
     is_seen: bool,
 }
 
@@ -22,10 +23,7 @@ impl Preference {
     /// Variables of less rank are decided first: those of a higher score, and of one score those of greater numbers, since a
     /// formula that is written gate by gate numbers what rests on other variables behind them.
     fn rank(&self) -> (u64, u32) {
-        (
-            u64::MAX - self.score,
-            u32::MAX - self.literal.unsigned_abs(),
-        )
+        (u64::MAX - self.score, u32::MAX - self.literal.variable())
     }
 }
 
@@ -38,8 +36,8 @@ pub struct Order {
 }
 
 /// Where the preference of the literal's variable stands.
-fn index_of(literal: i32) -> usize {
-    (literal.unsigned_abs() as usize).wrapping_sub(1)
+fn index_of(literal: Literal) -> usize {
+    (literal.variable() as usize).wrapping_sub(1)
 }
 
 impl Order {
@@ -47,12 +45,10 @@ impl Order {
     pub fn new(alloc: Global, variables: u32) -> Result<Order, NoMemory> {
         let mut preferences = Vec::new(alloc);
         let mut ranked = Vec::new(alloc);
-        let mut literal = 0i32;
-        for _ in 0..variables.min(i32::MAX as u32) {
-            literal = literal.wrapping_sub(1);
+        for index in 0..variables.min(LAST_VARIABLE) {
             preferences.push(Preference {
                 score: 0,
-                literal,
+                literal: Literal::of_variable(index + 1).opposite(),
                 is_seen: false,
             })?;
         }
@@ -81,7 +77,7 @@ impl Order {
 
     /// The literals that are decided one after the other: those of the highest scores first. Variables that weren't seen are in
     /// order still, so the second sort is one merge.
-    pub fn literals(&mut self, alloc: Global) -> Result<Vec<i32>, NoMemory> {
+    pub fn literals(&mut self, alloc: Global) -> Result<Vec<Literal>, NoMemory> {
         let mut sorted = self.seen(alloc, true)?;
         sorted.sort_by_key(|preference| preference.rank())?;
         sorted.append(&mut self.seen(alloc, false)?)?;
@@ -90,7 +86,7 @@ impl Order {
     }
 
     /// Ranks the variables in this order, and answers their literals.
-    fn rank(&mut self, alloc: Global, sorted: &[Preference]) -> Result<Vec<i32>, NoMemory> {
+    fn rank(&mut self, alloc: Global, sorted: &[Preference]) -> Result<Vec<Literal>, NoMemory> {
         let mut literals = Vec::new(alloc);
         self.ranked.clear();
         for preference in sorted {
@@ -104,12 +100,12 @@ impl Order {
         Ok(literals)
     }
 
-    fn preference(&mut self, literal: i32) -> Option<&mut Preference> {
+    fn preference(&mut self, literal: Literal) -> Option<&mut Preference> {
         self.preferences.get_mut(index_of(literal))
     }
 
     /// The variable was seen in a conflict.
-    pub fn bump(&mut self, literal: i32) {
+    pub fn bump(&mut self, literal: Literal) {
         if let Some(preference) = self.preference(literal) {
             preference.score = preference.score.saturating_add(BUMP);
             preference.is_seen = true;
@@ -117,7 +113,7 @@ impl Order {
     }
 
     /// The clause was learned.
-    pub fn learned(&mut self, clause: &[i32]) {
+    pub fn learned(&mut self, clause: &[Literal]) {
         for literal in clause {
             self.bump(*literal);
         }

@@ -6,7 +6,7 @@ ghost use Rattle.sat_core.specs.Searching.{IsSearching, IsStart, Reaches};
 
 use crate::order::Order;
 use std::alloc::Global;
-use watched_literals::{Propagator, opposite};
+use watched_literals::{Literal, Propagator, literals_of_all};
 use word_kit::{Clause, Formula, NoMemory};
 
 /// The variables that literals can name are those up to this one.
@@ -19,17 +19,8 @@ pub struct Search<'a> {
     pub formula: &'a Formula,
     pub steps: Vec<Clause>,
     pub propagator: Propagator,
-    pub assumed: Vec<i32>,
+    pub assumed: Vec<Literal>,
     pub order: Order,
-}
-
-/// The literal that is true where the variable is.
-pub fn literal_of(variable: u32) -> i32
-    requires above { 0 < variable }
-    requires below { variable < 2 ^ 31 }
-    ensures { result ≡ pos variable }
-{
-    variable as i32
 }
 
 impl<'a> Search<'a> {
@@ -39,7 +30,8 @@ impl<'a> Search<'a> {
         ensures { IfOk result (IsStart formula.now) }
     {
         let room = 2 * formula.variables.min(LAST_VARIABLE) as usize + 2;
-        let propagator = Propagator::over(alloc, formula.clauses.as_slice(), room)?;
+        let clauses = literals_of_all(alloc, formula.clauses.as_slice())?;
+        let propagator = Propagator::over(alloc, &clauses, room)?;
         let order = Order::new(alloc, formula.variables)?;
         Ok(Search {
             formula,
@@ -52,14 +44,14 @@ impl<'a> Search<'a> {
 
     /// Makes the literal true, if it has no value yet, with what follows. Where a clause becomes false, answers the opposite of
     /// the literal. A number that is no literal of the formula's variables is passed over.
-    fn assume(&mut self, literal: i32) -> Result<Option<i32>, NoMemory>
+    fn assume(&mut self, literal: Literal) -> Result<Option<Literal>, NoMemory>
         requires { IsSearching self.old }
         ensures { IfOk result (λ last. Reaches (IsLiteralOf self.old.propagator.trail.room (literal ∷ [])) self.old self.new last) }
     {
         if !self.propagator.is_within(literal) {
             return Ok(None);
         }
-        let negated = opposite(literal);
+        let negated = literal.opposite();
         if self.propagator.holds(literal) || self.propagator.holds(negated) {
             return Ok(None);
         }
@@ -71,7 +63,7 @@ impl<'a> Search<'a> {
     }
 
     /// Assumes the literals one after the other, until a clause is false.
-    pub fn assume_all(&mut self, literals: &[i32]) -> Result<Option<i32>, NoMemory>
+    pub fn assume_all(&mut self, literals: &[Literal]) -> Result<Option<Literal>, NoMemory>
         requires { IsSearching self.old }
         ensures { IfOk result (λ last. Reaches (IsLiteralOf self.old.propagator.trail.room literals.now) self.old self.new last) }
     {
@@ -85,12 +77,12 @@ impl<'a> Search<'a> {
     }
 
     /// Assumes all variables that literals can name, until a clause is false.
-    pub fn assume_variables(&mut self) -> Result<Option<i32>, NoMemory>
+    pub fn assume_variables(&mut self) -> Result<Option<Literal>, NoMemory>
         requires { IsSearching self.old }
         ensures { IfOk result (λ last. Reaches (IsVariable self.old.formula.now.variables) self.old self.new last) }
     {
         for index in 0..self.formula.variables.min(LAST_VARIABLE) {
-            let literal = literal_of(index + 1);
+            let literal = Literal::of_variable(index + 1);
             let last = self.assume(literal)?;
             if last.is_some() {
                 return Ok(last);
@@ -100,7 +92,7 @@ impl<'a> Search<'a> {
     }
 
     /// Decides variables until a clause is false or each variable has a value, the preferred literals first.
-    pub fn decide(&mut self, preferred: &[i32]) -> Result<Option<i32>, NoMemory>
+    pub fn decide(&mut self, preferred: &[Literal]) -> Result<Option<Literal>, NoMemory>
         requires { IsSearching self.old }
         ensures { IfOk result (λ last. Reaches (IsVariable self.old.formula.now.variables) self.old self.new last) }
     {

@@ -13,7 +13,7 @@ use crate::values::values;
 use crate::{Values, Verdict};
 use std::alloc::Global;
 use std::mem;
-use watched_literals::opposite;
+use watched_literals::{Literal, written};
 use word_kit::{Clause, Clauses, Formula, NoMemory, Refutation};
 
 /// What one search comes to.
@@ -22,12 +22,12 @@ pub enum Found {
     /// Values that satisfy the formula.
     Model(Vec<bool>),
     /// A clause that is worth learning.
-    Lesson(Vec<i32>),
+    Lesson(Vec<Literal>),
 }
 
 impl<'a> Search<'a> {
     /// Goes back to the root, of this many literals, and answers the clause of what was assumed.
-    fn restart(&mut self, alloc: Global, root: usize) -> Vec<i32>
+    fn restart(&mut self, alloc: Global, root: usize) -> Vec<Literal>
         ensures restarts { Restarts root self.old self.new }
         ensures assumed { result.items ≡ self.old.assumed.items }
     {
@@ -37,11 +37,16 @@ impl<'a> Search<'a> {
 
     /// The clause to be learned from a conflict: that of what it rests on where assuming that leads to a conflict again, and else
     /// that of the decisions, each without the literals that it can do without.
-    fn lesson(&mut self, alloc: Global, root: usize, last: i32) -> Result<Vec<i32>, NoMemory>
+    fn lesson(
+        &mut self,
+        alloc: Global,
+        root: usize,
+        last: Literal,
+    ) -> Result<Vec<Literal>, NoMemory>
         requires { IsConflict root last self.old }
         ensures { IfOk result (λ clause. IsTaught self.old self.new clause.items) }
     {
-        let level = self.propagator.place_of(opposite(last)).unwrap_or(root);
+        let level = self.propagator.place_of(last.opposite()).unwrap_or(root);
         let proposed = analyze(alloc, &self.propagator, root, level, &mut self.order)?;
         self.order.keep_values(&self.propagator, root);
         let decided = self.restart(alloc, root);
@@ -68,14 +73,14 @@ impl<'a> Search<'a> {
     }
 
     /// Adds the clause to the learned ones.
-    fn learn(&mut self, clause: Vec<i32>) -> Result<(), NoMemory>
+    fn learn(&mut self, alloc: Global, clause: &[Literal]) -> Result<(), NoMemory>
         requires rooted { IsRooted self.old }
-        requires within { All (IsWithin self.old.propagator.trail.room) clause.items }
-        ensures { OnOk result (IsLearned self.old self.new clause.items) }
+        requires within { All (IsWithin self.old.propagator.trail.room) clause.now }
+        ensures { OnOk result (IsLearned self.old self.new clause.now) }
     {
-        self.order.learned(&clause);
-        self.propagator.add(&clause)?;
-        self.steps.push(Clause::from(clause))?;
+        self.order.learned(clause);
+        self.propagator.add(clause)?;
+        self.steps.push(written(alloc, clause)?)?;
         Ok(())
     }
 }
@@ -99,7 +104,7 @@ pub fn solve(alloc: Global, formula: &Formula, limit: usize) -> Result<Verdict, 
                     let clauses = Clauses::from(search.steps);
                     return Ok(Verdict::Spent(Refutation { clauses }));
                 }
-                search.learn(clause)?;
+                search.learn(alloc, &clause)?;
             }
         }
     }

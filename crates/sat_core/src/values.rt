@@ -5,9 +5,9 @@ ghost use Rattle.std.specs.Ordering.{int_eq};
 ghost use Rattle.sat_core.specs.Decisions.{AreRead};
 ghost use Rattle.sat_core.specs.Searching.{room_for};
 
-use crate::search::{LAST_VARIABLE, literal_of};
+use crate::search::LAST_VARIABLE;
 use std::alloc::Global;
-use watched_literals::Propagator;
+use watched_literals::{Literal, Propagator};
 use word_kit::NoMemory;
 
 /// Whether the variable is true; one that no literal can name is false.
@@ -17,7 +17,7 @@ fn is_true(propagator: &Propagator, variable: u32, variables: u32) -> bool
     requires room { propagator.now.trail.room ≡ room_for variables }
     ensures { variable < 2 ^ 31 → result ≡ list_any (int_eq (pos variable)) propagator.now.trail.literals }
 {
-    variable <= LAST_VARIABLE && propagator.holds(literal_of(variable))
+    variable <= LAST_VARIABLE && propagator.holds(Literal::of_variable(variable))
 }
 
 /// The values of the variables from 1 to this one.

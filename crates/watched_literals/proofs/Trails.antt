@@ -4,9 +4,10 @@ use Rattle.std.proofs.lemmas.Bool.{false≢true}
 use Rattle.std.specs.List.{All, Contains, filter, flat_map, list_any}
 use Rattle.std.specs.Bool.{Decides}
 use Rattle.std.specs.Ordering.{int_eq}
-use Rattle.std.proofs.lemmas.Bool.Decides.{Decides-int_eq}
-use Rattle.std.proofs.lemmas.List.Elements.{All-contains, All-push, All-take, All-contains_itself, Contains-append_left, Contains-append_right, Contains-push, Contains-push_cases}
+use Rattle.std.proofs.lemmas.Bool.Decides.{Decides-int_eq, Decides-not}
+use Rattle.std.proofs.lemmas.List.Elements.{All-contains, All-push, All-take, All-contains_itself, Contains-append_left, Contains-append_right, Contains-push, Contains-push_cases, Contains-get_or}
 use Rattle.std.proofs.Math.IntN.{neg_ℤ-neg_ℤ}
+use Rattle.std.proofs.lemmas.List.{take_more}
 use Rattle.std.proofs.Math.Seq.{take-length, take-append_seam}
 use Rattle.indexmap.specs.IndexSet.{insert_key}
 use Rattle.word_kit.specs.Formulas.{IsLiteral, AreClauses}
@@ -43,6 +44,24 @@ lists (y ∷ ys) x = go (int_eq x y) (Decides-int_eq x y) (list_any (int_eq x) y
     go : (b : Bool) → Decides b (x ≡ y) → (r : Bool) → Decides r (Contains ys x) → Decides (b || r) (Contains (y ∷ ys) x)
     go true d r rest = (λ e. (0, omega arith, sym (d.0 refl)), λ h. refl)
     go false d r rest = (λ e. Contains-append_right (y ∷ []) ys x (rest.0 e), λ h. elim (Contains-cons y ys x h) [ inl e ↦ absurd (false≢true (d.1 (sym e))) | inr k ↦ rest.1 k ])
+
+-- what `!=` answers
+pub differs : (x y : ℤ) → not (int_eq x y) ≡ true → x ≢ y
+differs x y = (Decides-not (int_eq x y) (Decides-int_eq x y)).0
+
+pub equals : (x y : ℤ) → not (int_eq x y) ≡ false → x ≡ y
+equals x y = go (int_eq x y) (Decides-int_eq x y)
+  where
+    go : (b : Bool) → Decides b (x ≡ y) → not b ≡ false → x ≡ y
+    go true d e = d.0 refl
+    go false d e = absurd (true≢false e)
+
+-- the item of a loop over a slice
+pub item-inside : (xs : List ℤ) (i : ℕ) (x : ℤ) → i < length xs → x ≡ get_or xs i x → Contains xs x
+item-inside xs i x below is = subst (Contains xs) (sym is) (Contains-get_or xs i x below)
+
+pub take-item : (xs : List ℤ) (i : ℕ) (x : ℤ) → i < length xs → x ≡ get_or xs i x → take (i + 1) xs ≡ take i xs ++ x ∷ []
+take-item xs i x below is = take_more xs i x below ∙ ap (λ y. take i xs ++ y ∷ []) (sym is)
 
 pub listed : (xs : List ℤ) (x : ℤ) → list_any (int_eq x) xs ≡ true → Contains xs x
 listed xs x e = (lists xs x).0 e

@@ -2,13 +2,16 @@
 //! places and reasons of literals stand in arrays.
 #![tactic(auto)]
 
+mod clauses;
 mod lists;
+mod literal;
 mod numbering;
 mod propagator;
 mod standing;
 mod trail;
 mod watches;
 
+pub use clauses::{Literals, literals_of_all, written};
+pub use literal::Literal;
 pub use numbering::Numbering;
 pub use propagator::Propagator;
-pub use trail::opposite;

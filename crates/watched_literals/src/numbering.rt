@@ -5,6 +5,8 @@ ghost use Rattle.word_kit.specs.Formulas.{IsLiteral, AreClauses};
 ghost use Rattle.watched_literals.specs.Literals.{IsWithin};
 ghost use Rattle.watched_literals.specs.Numbers.{AreNames, IsNumbered, behind, Grown};
 
+use crate::clauses::Literals;
+use crate::literal::Literal;
 use indexmap::IndexSet;
 use std::alloc::Global;
 use word_kit::{Clause, NoMemory};
@@ -29,7 +31,7 @@ impl Numbering {
     }
 
     /// The literal with its variable's number in place of the variable, which gets the next number if it has none.
-    fn number(&mut self, literal: i32) -> Result<i32, NoMemory>
+    fn number(&mut self, literal: i32) -> Result<Literal, NoMemory>
         requires literal { IsLiteral literal }
         requires names { AreNames self.old.variables.keys }
         ensures grown { OnOk result (Grown self.old.variables.keys self.new.variables.keys) }
@@ -40,15 +42,19 @@ impl Numbering {
         if place > LAST {
             return Err(NoMemory);
         }
-        let number = (place + 1) as i32;
-        if literal < 0 { Ok(-number) } else { Ok(number) }
+        let number = Literal::of_variable((place + 1) as u32);
+        if literal < 0 {
+            Ok(number.opposite())
+        } else {
+            Ok(number)
+        }
     }
 
     /// The clause with numbers in place of its variables.
     ///
     /// # Errors
     /// `NoMemory` where memory ran out, or where 2^31 - 1 variables have numbers already.
-    pub fn renumber(&mut self, alloc: Global, clause: &[i32]) -> Result<Clause, NoMemory>
+    pub fn renumber(&mut self, alloc: Global, clause: &[i32]) -> Result<Literals, NoMemory>
         requires literals { All IsLiteral clause.now }
         requires names { AreNames self.old.variables.keys }
         ensures grown { OnOk result (Grown self.old.variables.keys self.new.variables.keys) }
@@ -59,7 +65,7 @@ impl Numbering {
         for literal in clause {
             numbers.push(self.number(*literal)?)?;
         }
-        Ok(Clause::from(numbers))
+        Ok(Literals::from(numbers))
     }
 
     /// The clauses with numbers in place of their variables.
@@ -70,7 +76,7 @@ impl Numbering {
         &mut self,
         alloc: Global,
         clauses: &[Clause],
-    ) -> Result<Vec<Clause>, NoMemory>
+    ) -> Result<Vec<Literals>, NoMemory>
         requires literals { AreClauses clauses.now }
         requires names { AreNames self.old.variables.keys }
         ensures grown { OnOk result (Grown self.old.variables.keys self.new.variables.keys) }

@@ -3,33 +3,34 @@ ghost use Rattle.std.specs.Prelude.{◌≡◌, ◌≢◌, true, None, Some, take
 ghost use Rattle.std.specs.Bool.{Decides};
 ghost use Rattle.std.specs.List.{All, Contains, list_any};
 ghost use Rattle.std.specs.Ordering.{int_eq};
-ghost use Rattle.word_kit.specs.Formulas.{IsLiteral};
 ghost use Rattle.watched_literals.specs.Propagation.{Follows};
 ghost use Rattle.watched_literals.specs.Trails.{Denies};
 ghost use Rattle.watched_literals.specs.Literals.{IsWithin, AreReasoned, clause_at};
 ghost use Rattle.watched_literals.specs.Watches.{IsStore, IsPair, AllWatched};
 ghost use Rattle.watched_literals.specs.Propagators.{IsReady, IsTried, IsAbove, IsComplete, Spreads};
 
+use crate::clauses::Literals;
 use crate::lists::WatchList;
+use crate::literal::Literal;
 use crate::standing::{Standing, standing_of};
-use crate::trail::{Trail, code, opposite};
+use crate::trail::Trail;
 use crate::watches::{Pair, Watches, list};
 use std::alloc::Global;
-use word_kit::{Clause, NoMemory};
+use word_kit::NoMemory;
 
 /// Known clauses that are watched, the literals that the known clauses make true by unit propagation, and whether a known
 /// clause is false.
 #[derive(Drop)]
 pub struct Propagator {
     alloc: Global,
-    clauses: Vec<Clause>,
+    clauses: Vec<Literals>,
     watches: Watches,
     trail: Trail,
     refuted: bool,
 }
 
 /// Makes the opposites of the clause's literals true, until one of the literals is true.
-fn deny(clause: &[i32], trail: &mut Trail) -> Result<bool, NoMemory>
+fn deny(clause: &[Literal], trail: &mut Trail) -> Result<bool, NoMemory>
     requires { All (IsWithin trail.old.room) clause.now }
     ensures room { trail.new.room ≡ trail.old.room }
     ensures reasons { OnOk result ((clauses : List (List ℤ)) → AreReasoned clauses trail.old → AreReasoned clauses trail.new) }
@@ -39,7 +40,7 @@ fn deny(clause: &[i32], trail: &mut Trail) -> Result<bool, NoMemory>
         if trail.holds(*literal) {
             return Ok(true);
         }
-        let off = opposite(*literal);
+        let off = literal.opposite();
         if !trail.holds(off) {
             trail.push(off, None)?;
         }
@@ -50,11 +51,11 @@ fn deny(clause: &[i32], trail: &mut Trail) -> Result<bool, NoMemory>
 /// Watches two literals of one clause more.
 fn watch(
     alloc: Global,
-    clauses: &mut Vec<Clause>,
+    clauses: &mut Vec<Literals>,
     watches: &mut Watches,
-    clause: &[i32],
-    one: i32,
-    other: i32,
+    clause: &[Literal],
+    one: Literal,
+    other: Literal,
 ) -> Result<(), NoMemory>
     requires stored { IsStore (length watches.old.rows.items) clauses.old.items watches.old.pairs.items watches.old.rows.items (pos 0) [] }
     requires within { All (IsWithin (length watches.old.rows.items)) clause.now }
@@ -66,7 +67,7 @@ fn watch(
 {
     let place = clauses.len();
     let literals = Vec::from_slice(alloc, clause)?;
-    clauses.push(Clause::from(literals))?;
+    clauses.push(Literals::from(literals))?;
     watches.pairs.push(Pair { one, other })?;
     list(&mut watches.rows, one, place)?;
     list(&mut watches.rows, other, place)?;
@@ -75,10 +76,10 @@ fn watch(
 
 /// Whether setting the literals of the clause to false leads to a clause that is false.
 fn attempt(
-    clauses: &[Clause],
+    clauses: &[Literals],
     watches: &mut Watches,
     trail: &mut Trail,
-    clause: &[i32],
+    clause: &[Literal],
 ) -> Result<bool, NoMemory>
     requires stored { IsStore trail.old.room clauses.now watches.old.pairs.items watches.old.rows.items (pos 0) [] }
     requires idle { watches.old.pending ≡ [] }
@@ -124,7 +125,7 @@ impl Propagator {
     }
 
     /// These clauses are known, whose literals have numbers below `room`.
-    pub fn over(alloc: Global, clauses: &[Clause], room: usize) -> Result<Propagator, NoMemory>
+    pub fn over(alloc: Global, clauses: &[Literals], room: usize) -> Result<Propagator, NoMemory>
         requires { All (λ clause. All (IsWithin room) clause) clauses.now }
         ensures room { IfOk result (λ s. s.trail.room ≡ room) }
         ensures ready { IfOk result (IsReady clauses.now) }
@@ -137,7 +138,7 @@ impl Propagator {
     }
 
     /// Adds a clause to the known ones.
-    pub fn add(&mut self, clause: &[i32]) -> Result<(), NoMemory>
+    pub fn add(&mut self, clause: &[Literal]) -> Result<(), NoMemory>
         requires ready { (known : List (List ℤ)) × IsReady known self.old }
         requires literals { All (IsWithin self.old.trail.room) clause.now }
         ensures room { self.new.trail.room ≡ self.old.trail.room }
@@ -174,7 +175,7 @@ impl Propagator {
     }
 
     /// Whether the clause follows from the known ones.
-    pub fn follows(&mut self, clause: &[i32]) -> Result<bool, NoMemory>
+    pub fn follows(&mut self, clause: &[Literal]) -> Result<bool, NoMemory>
         requires ready { (known : List (List ℤ)) × IsReady known self.old }
         requires literals { All (IsWithin self.old.trail.room) clause.now }
         ensures room { self.new.trail.room ≡ self.old.trail.room }
@@ -197,7 +198,7 @@ impl Propagator {
     }
 
     /// Makes true a literal that has no value, and what follows, and says whether a clause is false.
-    pub fn assume(&mut self, literal: i32) -> Result<bool, NoMemory>
+    pub fn assume(&mut self, literal: Literal) -> Result<bool, NoMemory>
         requires ready { (known : List (List ℤ)) × (root : List ℤ) × IsAbove known root self.old }
         requires complete { IsComplete self.old }
         requires literal { IsWithin self.old.trail.room literal }
@@ -243,7 +244,7 @@ impl Propagator {
     }
 
     /// Whether the literal is true.
-    pub fn holds(&self, literal: i32) -> bool
+    pub fn holds(&self, literal: Literal) -> bool
         requires { IsWithin self.now.trail.room literal }
         ensures { result ≡ list_any (int_eq literal) self.now.trail.literals }
     {
@@ -251,17 +252,14 @@ impl Propagator {
     }
 
     /// Whether the literal and its opposite have numbers for which there is room.
-    pub fn is_within(&self, literal: i32) -> bool
+    pub fn is_within(&self, literal: Literal) -> bool
         ensures { Decides result (IsWithin self.now.trail.room literal) }
     {
-        literal != 0
-            && literal != i32::MIN
-            && code(literal) < self.trail.room()
-            && code(opposite(literal)) < self.trail.room()
+        literal.code() < self.trail.room() && literal.opposite().code() < self.trail.room()
     }
 
     /// The literal at this place of the trail.
-    pub fn literal(&self, place: usize) -> Option<i32>
+    pub fn literal(&self, place: usize) -> Option<Literal>
         ensures { result ≡ slice_get self.now.trail.literals place }
     {
         if place < self.trail.len() {
@@ -272,31 +270,27 @@ impl Propagator {
     }
 
     /// Where the literal stands on the trail, if it is true.
-    pub fn place_of(&self, literal: i32) -> Option<usize>
+    pub fn place_of(&self, literal: Literal) -> Option<usize>
         ensures { IfSome result (λ place. slice_get self.now.trail.literals place ≡ Some literal) }
     {
-        if self.is_within(literal) {
-            self.trail.place_of(literal)
-        } else {
-            None
-        }
+        self.trail.place_of(literal)
     }
 
     /// The clause that made the literal at this place of the trail true, or no literals.
-    pub fn reason(&self, place: usize) -> &[i32]
+    pub fn reason(&self, place: usize) -> &[Literal]
         ensures { result.now ≡ clause_at self.now.clauses.items (slice_index_or self.now.trail.reasons place None) }
     {
         self.literals_at(self.trail.reason_at(place))
     }
 
     /// The clause that became false last, or no literals.
-    pub fn conflict(&self) -> &[i32]
+    pub fn conflict(&self) -> &[Literal]
         ensures { result.now ≡ clause_at self.now.clauses.items self.now.watches.conflict }
     {
         self.literals_at(self.watches.conflict)
     }
 
-    fn literals_at(&self, place: Option<usize>) -> &[i32]
+    fn literals_at(&self, place: Option<usize>) -> &[Literal]
         ensures { result.now ≡ clause_at self.now.clauses.items place }
     {
         match place {

@@ -4,7 +4,8 @@ ghost use Rattle.std.specs.List.{All};
 ghost use Rattle.watched_literals.specs.Literals.{IsWithin};
 ghost use Rattle.watched_literals.specs.Propagators.{Stands};
 
-use crate::trail::{Trail, opposite};
+use crate::literal::Literal;
+use crate::trail::Trail;
 
 /// How a clause stands.
 #[derive(Clone, Copy)]
@@ -12,15 +13,15 @@ pub enum Standing {
     /// One of its literals is true.
     True,
     /// None is true, and these two aren't false.
-    Open(i32, i32),
+    Open(Literal, Literal),
     /// All its literals but this one are false.
-    Unit(i32),
+    Unit(Literal),
     /// All its literals are false.
     False,
 }
 
 /// How the clause stands where the literals of the trail are true.
-pub fn standing_of(clause: &[i32], trail: &Trail) -> Standing
+pub fn standing_of(clause: &[Literal], trail: &Trail) -> Standing
     requires { All (IsWithin trail.now.room) clause.now }
     ensures { Stands trail.now.literals clause.now result }
 {
@@ -29,7 +30,7 @@ pub fn standing_of(clause: &[i32], trail: &Trail) -> Standing
         if trail.holds(*literal) {
             return Standing::True;
         }
-        if !trail.holds(opposite(*literal)) {
+        if !trail.holds(literal.opposite()) {
             match left {
                 None => {
                     left = Some(*literal);

@@ -2,38 +2,16 @@
 ghost use Rattle.std.specs.Prelude.{◌≡◌, ◌<◌, ◌≤◌, ◌-◌, ◌++◌, ◌∷◌, [], None, Some, false, slice_get, IfSome, pos, neg_ℤ, length, take, slice_index_or, IfOk, OnOk};
 ghost use Rattle.std.specs.List.{list_any};
 ghost use Rattle.std.specs.Ordering.{int_eq};
-ghost use Rattle.word_kit.specs.Formulas.{IsLiteral};
-ghost use Rattle.watched_literals.specs.Literals.{code, IsWithin};
+ghost use Rattle.watched_literals.specs.Literals.{IsWithin};
 
+use crate::literal::Literal;
 use std::alloc::Global;
 use std::marker::Model;
 use word_kit::NoMemory;
 
-/// The literal that is true where this one is false.
-pub fn opposite(literal: i32) -> i32
-    requires { IsLiteral literal }
-    ensures { result ≡ neg_ℤ literal }
-{
-    -literal
-}
-
-/// The number of a literal, by which arrays are indexed: twice its variable, and one more where it is negated.
-pub fn code(literal: i32) -> usize
-    requires { IsLiteral literal }
-    ensures { result ≡ code literal }
-{
-    if literal < 0 {
-        2 * (-literal) as usize + 1
-    } else {
-        2 * literal as usize
-    }
-}
-
 /// Notes where the literal stands.
-fn note(places: &mut [usize], literal: i32, place: usize)
-    requires { IsLiteral literal }
-{
-    if let Some(noted) = places.get_mut(code(literal)) {
+fn note(places: &mut [usize], literal: Literal, place: usize) {
+    if let Some(noted) = places.get_mut(literal.code()) {
         *noted = place;
     }
 }
@@ -42,7 +20,7 @@ fn note(places: &mut [usize], literal: i32, place: usize)
 /// literals and their reasons.
 #[derive(Drop)]
 pub struct Trail {
-    literals: Vec<i32>,
+    literals: Vec<Literal>,
     reasons: Vec<Option<usize>>,
     truth: Vec<bool>,
     places: Vec<usize>,
@@ -89,7 +67,7 @@ impl Trail {
         self.literals.len()
     }
 
-    pub fn get(&self, place: usize) -> i32
+    pub fn get(&self, place: usize) -> Literal
         requires { place < length self.now.literals }
         ensures literal { result ≡ slice_index_or self.now.literals place (pos 0) }
         ensures within { IsWithin self.now.room result }
@@ -97,19 +75,18 @@ impl Trail {
         self.literals[place]
     }
 
-    pub fn holds(&self, literal: i32) -> bool
+    pub fn holds(&self, literal: Literal) -> bool
         requires { IsWithin self.now.room literal }
         ensures { result ≡ list_any (int_eq literal) self.now.literals }
     {
-        self.truth[code(literal)]
+        self.truth[literal.code()]
     }
 
     /// Where the literal stands, if it is true.
-    pub fn place_of(&self, literal: i32) -> Option<usize>
-        requires { IsLiteral literal }
+    pub fn place_of(&self, literal: Literal) -> Option<usize>
         ensures { IfSome result (λ place. slice_get self.now.literals place ≡ Some literal) }
     {
-        let place = *self.places.get(code(literal))?;
+        let place = *self.places.get(literal.code())?;
         if *self.literals.get(place)? == literal {
             Some(place)
         } else {
@@ -124,7 +101,7 @@ impl Trail {
         *self.reasons.get(place)?
     }
 
-    pub fn push(&mut self, literal: i32, reason: Option<usize>) -> Result<(), NoMemory>
+    pub fn push(&mut self, literal: Literal, reason: Option<usize>) -> Result<(), NoMemory>
         requires within { IsWithin self.old.room literal }
         requires fresh { list_any (int_eq literal) self.old.literals ≡ false }
         ensures room { self.new.room ≡ self.old.room }
@@ -134,7 +111,7 @@ impl Trail {
         note(&mut self.places, literal, self.literals.len());
         self.reasons.push(reason)?;
         self.literals.push(literal)?;
-        self.truth[code(literal)] = true;
+        self.truth[literal.code()] = true;
         Ok(())
     }
 
@@ -144,7 +121,7 @@ impl Trail {
         ensures reasons { self.new.reasons ≡ self.old.reasons }
     {
         if let Some(literal) = self.literals.pop() {
-            self.truth[code(literal)] = false;
+            self.truth[literal.code()] = false;
         }
     }
 

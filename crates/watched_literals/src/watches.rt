@@ -1,25 +1,26 @@
 //! Unit propagation by two watched literals a clause.
 ghost use Rattle.std.specs.Prelude.{◌≡◌, ◌≢◌, ◌<◌, ◌≤◌, ◌++◌, ◌∷◌, [], ℤ, neg_ℤ, pos, length, take, slice_index_or, slice_set, IfOk, OnOk, MatchOption};
 ghost use Rattle.std.specs.List.{All, Contains};
-ghost use Rattle.word_kit.specs.Formulas.{IsLiteral};
 ghost use Rattle.watched_literals.specs.Literals.{code, IsWithin, AreReasoned};
 ghost use Rattle.watched_literals.specs.Watches.{IsWatch, IsStore, Rewatches, Visits, Propagates, AllWatched};
 
+use crate::clauses::Literals;
 use crate::lists::WatchList;
-use crate::trail::{Trail, code, opposite};
+use crate::literal::Literal;
+use crate::trail::Trail;
 use std::mem;
-use word_kit::{Clause, NoMemory};
+use word_kit::NoMemory;
 
 /// Two literals of a clause that are watched.
 #[derive(Clone, Copy)]
 pub struct Pair {
-    pub one: i32,
-    pub other: i32,
+    pub one: Literal,
+    pub other: Literal,
 }
 
 impl Pair {
     /// A watched literal that isn't this one.
-    fn beside(self, off: i32) -> i32
+    fn beside(self, off: Literal) -> Literal
         ensures watch { IsWatch self result }
         ensures apart { self.one ≢ self.other → result ≢ off }
     {
@@ -42,14 +43,14 @@ pub struct Watches {
 }
 
 /// A literal of the clause that isn't false, apart from this one.
-fn unfalse(clause: &[i32], trail: &Trail, but: i32) -> Option<i32>
+fn unfalse(clause: &[Literal], trail: &Trail, but: Literal) -> Option<Literal>
     requires { All (IsWithin trail.now.room) clause.now }
     ensures { MatchOption result
         ((literal : ℤ) → Contains clause.now literal → literal ≢ but → Contains trail.now.literals (neg_ℤ literal))
         (λ literal. Contains clause.now literal × (literal ≢ but) × (¬ Contains trail.now.literals (neg_ℤ literal))) }
 {
     for literal in clause {
-        if *literal != but && !trail.holds(opposite(*literal)) {
+        if *literal != but && !trail.holds(literal.opposite()) {
             return Some(*literal);
         }
     }
@@ -57,12 +58,11 @@ fn unfalse(clause: &[i32], trail: &Trail, but: i32) -> Option<i32>
 }
 
 /// Puts the place into the row of the literal.
-pub fn list(rows: &mut Vec<WatchList>, literal: i32, place: usize) -> Result<(), NoMemory>
-    requires literal { IsLiteral literal }
+pub fn list(rows: &mut Vec<WatchList>, literal: Literal, place: usize) -> Result<(), NoMemory>
     requires within { code literal < length rows.old.items }
     ensures { OnOk result (rows.new.items ≡ slice_set rows.old.items (code literal) (slice_index_or rows.old.items (code literal) [] ++ place ∷ [])) }
 {
-    rows[code(literal)].push(place)?;
+    rows[literal.code()].push(place)?;
     Ok(())
 }
 
@@ -70,10 +70,10 @@ impl Watches {
     /// Looks at the clause at this place, one of whose watched literals is the false `off`.
     fn rewatch(
         &mut self,
-        clauses: &[Clause],
+        clauses: &[Literals],
         trail: &mut Trail,
         place: usize,
-        off: i32,
+        off: Literal,
     ) -> Result<bool, NoMemory>
         requires inside { place < length clauses.now }
         requires stored { IsStore trail.old.room clauses.now self.old.pairs.items self.old.rows.items off (self.old.pending ++ place ∷ []) }
@@ -98,7 +98,7 @@ impl Watches {
                 Ok(false)
             }
             None => {
-                if trail.holds(opposite(other)) {
+                if trail.holds(other.opposite()) {
                     self.conflict = Some(place);
                     self.pending.push(place)?;
                     return Ok(true);
@@ -113,9 +113,9 @@ impl Watches {
     /// Looks at the clauses that watch the opposite of this true literal, until one of them is false.
     fn visit(
         &mut self,
-        clauses: &[Clause],
+        clauses: &[Literals],
         trail: &mut Trail,
-        literal: i32,
+        literal: Literal,
     ) -> Result<bool, NoMemory>
         requires stored { IsStore trail.old.room clauses.now self.old.pairs.items self.old.rows.items (pos 0) [] }
         requires idle { self.old.pending ≡ [] }
@@ -127,8 +127,8 @@ impl Watches {
             self.old.pairs.items trail.old.literals
             self.new.pairs.items self.new.rows.items self.new.pending trail.new.literals fails) }
     {
-        let off = opposite(literal);
-        let row = code(off);
+        let off = literal.opposite();
+        let row = off.code();
         mem::swap(&mut self.rows[row], &mut self.pending);
         while let Some(place) = self.pending.pop() {
             if self.rewatch(clauses, trail, place, off)? {
@@ -143,7 +143,7 @@ impl Watches {
     /// before `from` were visited already.
     pub fn propagate(
         &mut self,
-        clauses: &[Clause],
+        clauses: &[Literals],
         trail: &mut Trail,
         from: usize,
     ) -> Result<bool, NoMemory>

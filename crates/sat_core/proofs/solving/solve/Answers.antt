@@ -12,7 +12,7 @@ learning-preserved c =
     let l = c.in_ok-learn-in-Lesson.ensures in
     let clause = c.in-Lesson.clause.items in
     let formula = c.learning.invariant.formula in
-    let steps = l.steps ∙ ap (λ ss. ss ++ clause ∷ []) t.steps in
+    let steps = l.steps ∙ ap (λ x. c.turn.new.self.steps.items ++ x ∷ []) c.deref.ensures.value ∙ ap (λ ss. ss ++ clause ∷ []) t.steps in
     record {
       rooted = l.rooted;
       formula = l.formula ∙ t.formula ∙ formula;

@@ -1,5 +1,4 @@
-use Rattle.std.proofs.Common.{[], None, pos, get_or, take, sym, ◌+◌, rules, w32, SFits}
-use Rattle.std.proofs.lemmas.Int.{to_z-of_z}
+use Rattle.std.proofs.Common.{[], None, take, sym, ◌+◌}
 use Rattle.sat_core.specs.Decisions.{IsLiteralOf}
 use Rattle.sat_core.proofs.Reaching.{reaches-start, none-of, searching-on, reaches-next, reaches-going, reaches-stopped, reaches-all}
 use Rattle.sat_core.proofs.search.Search.assume_all.Goals as goal
@@ -14,20 +13,16 @@ assume-requires c =
 pub loop-literal-preserved : goal.loop-literal-preserved
 loop-literal-preserved c =
     let n = c.loop-literal.literal-index in
-    let z = get_or c.args.literals.now n (pos 0) in
-    let f : SFits w32 z = search rules in
-    reaches-next c.args.literals.now c.args.self.now c.loop-literal.self c.assume.new.self n _ None c.loop-literal-test.true (to_z-of_z w32 z f) c.loop-literal.invariant
+    reaches-next c.args.literals.now c.args.self.now c.loop-literal.self c.assume.new.self n _ None c.loop-literal-test.true c.literal-item.is c.loop-literal.invariant
     (reaches-going _ c.loop-literal.self c.assume.new.self c.in_ok-last.last (sym c.if-is_some.ensures) c.in_ok-last.ensures)
 
 pub returns-then-is_some : goal.returns-then-is_some
 returns-then-is_some c =
     let n = c.loop-literal.literal-index in
-    let z = get_or c.args.literals.now n (pos 0) in
-    let f : SFits w32 z = search rules in
     let room = c.args.self.now.propagator.trail.room in
     reaches-stopped (IsLiteralOf room (take (n + 1) c.args.literals.now)) (IsLiteralOf room c.args.literals.now) c.args.self.now c.assume.new.self c.in_ok-last.last
     (sym c.if-is_some.ensures)
-    (reaches-next c.args.literals.now c.args.self.now c.loop-literal.self c.assume.new.self n _ c.in_ok-last.last c.loop-literal-test.true (to_z-of_z w32 z f)
+    (reaches-next c.args.literals.now c.args.self.now c.loop-literal.self c.assume.new.self n _ c.in_ok-last.last c.loop-literal-test.true c.literal-item.is
     c.loop-literal.invariant c.in_ok-last.ensures)
 
 pub returns : goal.returns

@@ -1,5 +1,4 @@
-use Rattle.std.proofs.Common.{◌+◌, None, pos, min, sym, ◌∙◌, subst, arith, rules, w32, SFits}
-use Rattle.std.proofs.lemmas.Int.{to_z-of_z}
+use Rattle.std.proofs.Common.{◌+◌, None, pos, min, sym, subst, arith}
 use Rattle.watched_literals.specs.Literals.{IsWithin}
 use Rattle.watched_literals.proofs.Numbers.{within-of}
 use Rattle.sat_core.specs.Decisions.{IsVariable}
@@ -15,8 +14,7 @@ assume-requires c = searching-on (IsVariable c.loop-index.index) c.args.self.now
 pub loop-index-preserved : goal.loop-index-preserved
 loop-index-preserved c =
     let n = c.loop-index.index in
-    let f : SFits w32 c.literal_of-literal.result = search rules in
-    let is = to_z-of_z w32 c.literal_of-literal.result f ∙ c.literal_of-literal.ensures in
+    let is = c.of_variable-literal.ensures in
     let within : IsWithin c.args.self.now.propagator.trail.room (pos (n + 1)) =
     within-of (pos (n + 1)) (min c.args.self.now.formula.now.variables 2147483647) c.args.self.now.propagator.trail.room c.requires.room
     (record { nonzero = omega arith; within = omega (arith, c.loop-index-test.true, c.min-index-end.ensures) }) (omega (arith, c.loop-index-test.true, c.min-index-end.ensures)) in
@@ -26,8 +24,7 @@ loop-index-preserved c =
 pub returns-then-is_some : goal.returns-then-is_some
 returns-then-is_some c =
     let n = c.loop-index.index in
-    let f : SFits w32 c.literal_of-literal.result = search rules in
-    let is = to_z-of_z w32 c.literal_of-literal.result f ∙ c.literal_of-literal.ensures in
+    let is = c.of_variable-literal.ensures in
     let within : IsWithin c.args.self.now.propagator.trail.room (pos (n + 1)) =
     within-of (pos (n + 1)) (min c.args.self.now.formula.now.variables 2147483647) c.args.self.now.propagator.trail.room c.requires.room
     (record { nonzero = omega arith; within = omega (arith, c.loop-index-test.true, c.min-index-end.ensures) }) (omega (arith, c.loop-index-test.true, c.min-index-end.ensures)) in

@@ -7,12 +7,12 @@ use Rattle.sat_core.proofs.search.Search.learn.Goals as goal
 pub returns : goal.returns
 returns c =
     let s = c.args.self.now in
-    let clause = c.args.clause.items in
-    let steps = c.in_ok-push.ensures.items ∙ ap (λ x. s.steps.items ++ x ∷ []) c.from.ensures in
+    let clause = c.args.clause.now in
+    let steps = c.in_ok-push.ensures.items ∙ ap (λ x. s.steps.items ++ x ∷ []) c.in_ok-written.ensures in
     record {
       rooted = record {
         ready = subst (λ cs. IsReady cs c.add.new.self)
-            (ap (λ x. known s ++ x ∷ []) c.deref-2.ensures.value ∙ append_assoc s.formula.now.clauses s.steps.items (clause ∷ []) ∙ ap (λ ss. s.formula.now.clauses ++ ss) (sym steps))
+            (append_assoc s.formula.now.clauses s.steps.items (clause ∷ []) ∙ ap (λ ss. s.formula.now.clauses ++ ss) (sym steps))
             (c.in_ok-add.ensures.ready (known s) c.requires.rooted.ready);
         bare = c.requires.rooted.bare;
         room = c.in_ok-add.ensures.room ∙ c.requires.rooted.room;

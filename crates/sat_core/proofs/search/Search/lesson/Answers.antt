@@ -1,6 +1,5 @@
-use Rattle.std.proofs.Common.{refl, sym, subst, ◌∙◌, rules, w32, SFits, to_z, of_z}
+use Rattle.std.proofs.Common.{refl, sym, subst, ◌∙◌}
 use Rattle.std.specs.List.{All}
-use Rattle.std.proofs.lemmas.Int.{to_z-of_z}
 use Rattle.watched_literals.specs.Literals.{IsWithin}
 use Rattle.sat_core.specs.Decisions.{IsGained}
 use Rattle.sat_core.specs.Searching.{known, Reaches}
@@ -22,13 +21,11 @@ minimize-requires-clause-ready c =
     let k = is-back c.args.root _ s c.restart-decided.new.self c.assume_all.new.self c.restart-again.new.self c.in_ok-found.found a.0 a.1 a.2
     (record { formula = r.formula; steps = r.steps; room = r.room; bare = r.bare; trail = r.trail; above = r.above; ready = r.ready }) c.in_ok-found.ensures
     c.restart-again.ensures.restarts in
-    let f : SFits w32 c.in-Some.literal = search rules in
     let h = subst (Reaches _ c.restart-decided.new.self c.assume_all.new.self) c.in-Some.is c.in_ok-found.ensures in (
       known s,
       k.ready,
-      subst (λ xs. IsGained (known s) xs (to_z w32 (of_z w32 c.in-Some.literal))) (sym (c.deref-in-Some.ensures.value ∙ c.restart-again.ensures.assumed))
-          (subst (IsGained (known s) c.assume_all.new.self.assumed.items) (sym (to_z-of_z w32 c.in-Some.literal f))
-          (subst (λ cs. IsGained cs c.assume_all.new.self.assumed.items c.in-Some.literal) (known-kept s c.restart-decided.new.self r.formula r.steps) h.leads.0)),
+      subst (λ xs. IsGained (known s) xs c.in-Some.literal) (sym (c.deref-in-Some.ensures.value ∙ c.restart-again.ensures.assumed))
+          (subst (λ cs. IsGained cs c.assume_all.new.self.assumed.items c.in-Some.literal) (known-kept s c.restart-decided.new.self r.formula r.steps) h.leads.0),
     )
 
 pub minimize-requires-clause-within : goal.minimize-requires-clause-within
@@ -45,11 +42,9 @@ returns-in-Some c =
     let k : IsBack s c.restart-again.new.self = is-back c.args.root _ s c.restart-decided.new.self c.assume_all.new.self c.restart-again.new.self c.in_ok-found.found a.0 a.1 a.2
     (record { formula = r.formula; steps = r.steps; room = r.room; bare = r.bare; trail = r.trail; above = r.above; ready = r.ready }) c.in_ok-found.ensures
     c.restart-again.ensures.restarts in
-    let f : SFits w32 c.in-Some.literal = search rules in
     let h = subst (Reaches _ c.restart-decided.new.self c.assume_all.new.self) c.in-Some.is c.in_ok-found.ensures in
-    let g = subst (λ xs. IsGained (known s) xs (to_z w32 (of_z w32 c.in-Some.literal))) (sym (c.deref-in-Some.ensures.value ∙ c.restart-again.ensures.assumed))
-    (subst (IsGained (known s) c.assume_all.new.self.assumed.items) (sym (to_z-of_z w32 c.in-Some.literal f))
-    (subst (λ cs. IsGained cs c.assume_all.new.self.assumed.items c.in-Some.literal) (known-kept s c.restart-decided.new.self r.formula r.steps) h.leads.0)) in
+    let g = subst (λ xs. IsGained (known s) xs c.in-Some.literal) (sym (c.deref-in-Some.ensures.value ∙ c.restart-again.ensures.assumed))
+    (subst (λ cs. IsGained cs c.assume_all.new.self.assumed.items c.in-Some.literal) (known-kept s c.restart-decided.new.self r.formula r.steps) h.leads.0) in
     let m = c.in_ok-minimize-in-Some.ensures in
     taught-back c.args.root _ s c.restart-again.new.self _ c.in_ok-minimize-in-Some.field-0.items c.requires k refl refl refl m.room
     (m.ready (known s) k.ready) (m.lesson (known s) k.ready g) m.within
@@ -64,8 +59,8 @@ minimize-requires-in-None-clause-ready c =
     c.restart-again.ensures.restarts in (
       known s,
       k.ready,
-      subst (λ xs. IsGained (known s) xs (to_z w32 (of_z w32 c.args.last))) (sym (c.deref-in-None.ensures.value ∙ c.restart-decided.ensures.assumed))
-          (subst (IsGained (known s) s.assumed.items) (sym (to_z-of_z w32 c.args.last c.ranges.last)) c.requires.gained),
+      subst (λ xs. IsGained (known s) xs c.args.last) (sym (c.deref-in-None.ensures.value ∙ c.restart-decided.ensures.assumed))
+          c.requires.gained,
     )
 
 pub returns : goal.returns
@@ -76,8 +71,8 @@ returns c =
     let k : IsBack s c.restart-again.new.self = is-back c.args.root _ s c.restart-decided.new.self c.assume_all.new.self c.restart-again.new.self c.in_ok-found.found a.0 a.1 a.2
     (record { formula = r.formula; steps = r.steps; room = r.room; bare = r.bare; trail = r.trail; above = r.above; ready = r.ready }) c.in_ok-found.ensures
     c.restart-again.ensures.restarts in
-    let g = subst (λ xs. IsGained (known s) xs (to_z w32 (of_z w32 c.args.last))) (sym (c.deref-in-None.ensures.value ∙ c.restart-decided.ensures.assumed))
-    (subst (IsGained (known s) s.assumed.items) (sym (to_z-of_z w32 c.args.last c.ranges.last)) c.requires.gained) in
+    let g = subst (λ xs. IsGained (known s) xs c.args.last) (sym (c.deref-in-None.ensures.value ∙ c.restart-decided.ensures.assumed))
+    c.requires.gained in
     let m = c.in_ok-minimize-in-None.ensures in
     taught-back c.args.root _ s c.restart-again.new.self _ c.in_ok-minimize-in-None.field-0.items c.requires k refl refl refl m.room
     (m.ready (known s) k.ready) (m.lesson (known s) k.ready g) m.within

@@ -1,7 +1,6 @@
-use Rattle.std.proofs.Common.{refl, sym, subst, rules, w32, SFits}
-use Rattle.std.proofs.lemmas.Int.{to_z-of_z}
+use Rattle.std.proofs.Common.{refl, subst}
 use Rattle.sat_core.specs.Decisions.{IsVariable, AreRead}
-use Rattle.sat_core.specs.Searching.{IsConflict, Reaches}
+use Rattle.sat_core.specs.Searching.{Reaches}
 use Rattle.sat_core.proofs.Models.{model-of}
 use Rattle.sat_core.proofs.Reaching.{rooted-searching, conflict-of}
 use Rattle.sat_core.proofs.search.Search.turn.Goals as goal
@@ -13,12 +12,10 @@ decide-requires c =
 
 pub lesson-requires : goal.lesson-requires
 lesson-requires c =
-    let f : SFits w32 c.in-Some.last = search rules in
     let r = c.requires.rooted in
-    subst (λ l. IsConflict c.len-root.result l c.decide.new.self) (sym (to_z-of_z w32 c.in-Some.last f))
-    (conflict-of c.len-root.result _ _ c.decide.new.self c.in-Some.last c.len-root.ensures
+    conflict-of c.len-root.result _ _ c.decide.new.self c.in-Some.last c.len-root.ensures
     (record { ready = r.ready; bare = r.bare; room = r.room; formula = r.formula; literals = r.literals }) c.requires.open_root
-    (subst (Reaches _ _ c.decide.new.self) c.in-Some.is c.in_ok-last.ensures))
+    (subst (Reaches _ _ c.decide.new.self) c.in-Some.is c.in_ok-last.ensures)
 
 pub returns : goal.returns
 returns c =

@@ -1,5 +1,5 @@
-use Rattle.std.proofs.Common.{◌≡◌, ◌+◌, ◌-ℤ◌, pos, negsuc, suc, neg_ℤ, nat_abs, sym, ap, ◌∙◌, w32, to_z, of_z, arith}
-use Rattle.std.proofs.lemmas.Int.{ints, to_z-of_z}
+use Rattle.std.proofs.Common.{◌≡◌, pos, negsuc, suc, neg_ℤ, nat_abs, sym, ap, ◌∙◌, w32, arith}
+use Rattle.std.proofs.lemmas.Int.{to_z-of_z}
 use Rattle.watched_literals.specs.Numbers.{behind, name}
 use Rattle.watched_literals.proofs.Numbers.{grown-insert, name-found, magnitude, negative-is, nonnegative-is}
 use Rattle.std.proofs.lemmas.Bool.Decides.{Decides-eqb}
@@ -24,7 +24,7 @@ pub returns-then-literal-lt0-clause-behind : goal.returns-then-literal-lt0-claus
 returns-then-literal-lt0-clause-behind c =
     let e = to_z-of_z w32 c.args.literal c.ranges.literal in
     let m : c.unsigned_abs.result ≡ nat_abs c.args.literal = c.unsigned_abs.ensures.value ∙ ap nat_abs e in
-    let n : to_z w32 (of_z w32 (pos 0 -ℤ to_z w32 (c.in_ok-place.place + 1))) ≡ negsuc c.in_ok-place.place = omega (arith, ints) in
+    let n : c.opposite.result ≡ negsuc c.in_ok-place.place = c.opposite.ensures ∙ ap neg_ℤ {y = pos (suc c.in_ok-place.place)} (c.of_variable-number.ensures ∙ ap pos (omega arith)) in
     let k = c.in_ok-place.ensures.stored in
     let f : name c.insert_full.new.self.keys c.in_ok-place.place ≡ c.unsigned_abs.result =
     name-found c.insert_full.new.self.keys c.in_ok-place.place c.unsigned_abs.result k.0 k.1 (sym ((Decides-eqb c.unsigned_abs.result k.0).0 k.2)) in
@@ -35,7 +35,7 @@ pub returns-else-literal-lt0-clause-behind : goal.returns-else-literal-lt0-claus
 returns-else-literal-lt0-clause-behind c =
     let e = to_z-of_z w32 c.args.literal c.ranges.literal in
     let m : c.unsigned_abs.result ≡ nat_abs c.args.literal = c.unsigned_abs.ensures.value ∙ ap nat_abs e in
-    let n : to_z w32 (c.in_ok-place.place + 1) ≡ pos (suc c.in_ok-place.place) = omega (arith, ints) in
+    let n : c.of_variable-number.result ≡ pos (suc c.in_ok-place.place) = c.of_variable-number.ensures ∙ ap pos (omega arith) in
     let k = c.in_ok-place.ensures.stored in
     let f : name c.insert_full.new.self.keys c.in_ok-place.place ≡ c.unsigned_abs.result =
     name-found c.insert_full.new.self.keys c.in_ok-place.place c.unsigned_abs.result k.0 k.1 (sym ((Decides-eqb c.unsigned_abs.result k.0).0 k.2)) in

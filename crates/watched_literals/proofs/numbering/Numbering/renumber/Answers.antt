@@ -12,13 +12,12 @@ loop-literal-preserved c =
     let z = get_or c.args.clause.now c.loop-literal.literal-index (pos 0) in
     let f : SFits w32 z = search rules in
     let e = to_z-of_z w32 z f in
-    let g : SFits w32 c.in_ok-number.field-0 = search rules in
     let old = c.loop-literal.self.variables.keys in
     let new = c.number.new.self.variables.keys in
     let numbers = c.loop-literal.numbers.items in
     let n = c.in_ok-number.field-0 in
     let grown = c.in_ok-number.ensures.grown in
-    let is = c.in_ok-push.ensures.items ∙ ap (λ x. numbers ++ x ∷ []) (to_z-of_z w32 n g) in
+    let is = c.in_ok-push.ensures.items in
     record {
       grown = grown-on c.args.self.now.variables.keys old new c.loop-literal.invariant.grown grown;
       numbered = subst (All (IsNumbered new)) (sym is)

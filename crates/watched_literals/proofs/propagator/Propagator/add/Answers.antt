@@ -1,7 +1,4 @@
-use Rattle.std.proofs.Common.{◌++◌, ◌∷◌, pos, [], cond, take, sym, subst, ap, ◌∙◌, rules, w32, SFits, to_z, of_z}
-use Rattle.std.proofs.lemmas.Int.{to_z-of_z}
-use Rattle.std.specs.List.{list_any}
-use Rattle.std.specs.Ordering.{int_eq}
+use Rattle.std.proofs.Common.{◌++◌, ◌∷◌, pos, [], cond, take, sym, subst, ◌∙◌}
 use Rattle.std.proofs.lemmas.List.Elements.{All-contains}
 use Rattle.watched_literals.specs.Propagation.{HasConflict}
 use Rattle.watched_literals.proofs.Trails.{tested}
@@ -19,17 +16,15 @@ returns-then-self-clause-ready c = λ known ready.
 
 pub push-requires-clause-fresh : goal.push-requires-clause-fresh
 push-requires-clause-fresh c =
-    let f : SFits w32 c.in-Unit.literal = search rules in
-    ap (λ x. list_any (int_eq x) c.args.self.now.trail.literals) (to_z-of_z w32 c.in-Unit.literal f) ∙ tested c.args.self.now.trail.literals c.in-Unit.literal c.in-Unit.ensures.not_true
+    tested c.args.self.now.trail.literals c.in-Unit.literal c.in-Unit.ensures.not_true
 
 pub propagate-requires-clause-watched : goal.propagate-requires-clause-watched
 propagate-requires-clause-watched c =
-    let f : SFits w32 c.in-Unit.literal = search rules in
     let known = c.requires.ready.0 in
     let o = open-of c.args.self.now.refuted (HasConflict known []) (IsOpen known c.args.self.now.trail.room c.args.self.now.clauses.items c.args.self.now.watches.pairs.items c.args.self.now.watches.rows.items c.args.self.now.watches.pending c.args.self.now.trail.literals) c.if-self.false c.requires.ready.1 in
     subst (λ cs. AllWatched cs c.args.self.now.watches.pairs.items (take c.len-visited.result c.push.new.self.literals) c.push.new.self.literals) (sym c.as_slice.ensures.value)
     (watched-front c.args.self.now.clauses.items c.args.self.now.watches.pairs.items c.args.self.now.trail.literals c.push.new.self.literals c.len-visited.result c.len-visited.ensures
-    (to_z w32 (of_z w32 c.in-Unit.literal) ∷ [], c.in_ok-push-in-Unit.ensures.literals) o.watched)
+    (c.in-Unit.literal ∷ [], c.in_ok-push-in-Unit.ensures.literals) o.watched)
 
 pub returns-in-True-clause-ready : goal.returns-in-True-clause-ready
 returns-in-True-clause-ready c = λ known ready.
@@ -38,8 +33,6 @@ returns-in-True-clause-ready c = λ known ready.
 
 pub returns-in_ok-watch-in-Open-clause-ready : goal.returns-in_ok-watch-in-Open-clause-ready
 returns-in_ok-watch-in-Open-clause-ready c = λ known ready.
-    let f : SFits w32 c.in-Open.one = search rules in
-    let g : SFits w32 c.in-Open.other = search rules in
     let o = (open-of c.args.self.now.refuted (HasConflict known []) (IsOpen known c.args.self.now.trail.room c.args.self.now.clauses.items c.args.self.now.watches.pairs.items c.args.self.now.watches.rows.items c.args.self.now.watches.pending c.args.self.now.trail.literals) c.if-self.false ready) in
     let w = c.in_ok-watch-in-Open.ensures in
     of-open c.args.self.now.refuted (HasConflict (known ++ c.args.clause.now ∷ []) [])
@@ -47,14 +40,11 @@ returns-in_ok-watch-in-Open-clause-ready c = λ known ready.
     (added-open known c.args.clause.now c.args.self.now.trail.room c.args.self.now.clauses.items c.args.self.now.watches.pairs.items c.args.self.now.watches.rows.items c.args.self.now.watches.pending c.args.self.now.trail.literals
     c.watch.new.clauses.items c.watch.new.watches.pairs.items c.watch.new.watches.rows.items c.watch.new.watches.pending c.in-Open.one c.in-Open.other
     c.in-Open.ensures w.clauses
-    (w.pairs ∙ ap (λ x. c.args.self.now.watches.pairs.items ++ (record { one = x; other = to_z w32 (of_z w32 c.in-Open.other) }) ∷ []) (to_z-of_z w32 c.in-Open.one f)
-    ∙ ap (λ x. c.args.self.now.watches.pairs.items ++ (record { one = c.in-Open.one; other = x }) ∷ []) (to_z-of_z w32 c.in-Open.other g)) w.pending
+    w.pairs w.pending
     (subst (λ n. IsStore n c.watch.new.clauses.items c.watch.new.watches.pairs.items c.watch.new.watches.rows.items (pos 0) []) o.stored.rowed w.stored) o)
 
 pub returns-in_ok-self-in-Unit-clause-ready : goal.returns-in_ok-self-in-Unit-clause-ready
 returns-in_ok-self-in-Unit-clause-ready c = λ known ready.
-    let f : SFits w32 c.in-Unit.literal = search rules in
-    let e = to_z-of_z w32 c.in-Unit.literal f in
     let u = c.in-Unit.ensures in
     let l = (All-contains (IsWithin c.args.self.now.trail.room) c.args.clause.now c.in-Unit.literal c.requires.literals u.inside).is_literal in
     let o = (open-of c.args.self.now.refuted (HasConflict known []) (IsOpen known c.args.self.now.trail.room c.args.self.now.clauses.items c.args.self.now.watches.pairs.items c.args.self.now.watches.rows.items c.args.self.now.watches.pending c.args.self.now.trail.literals) c.if-self.false ready) in
@@ -70,7 +60,7 @@ returns-in_ok-self-in-Unit-clause-ready c = λ known ready.
     (added-unit known c.args.clause.now c.args.self.now.trail.room c.args.self.now.clauses.items c.args.self.now.watches.pairs.items c.args.self.now.watches.rows.items c.args.self.now.watches.pending c.args.self.now.trail.literals
     c.push.new.self.literals c.propagate.new.self.pairs.items c.propagate.new.self.rows.items c.propagate.new.self.pending c.propagate.new.trail.literals
     c.in-Unit.literal c.in_ok-self-in-Unit.field-0 u l
-    (c.in_ok-push-in-Unit.ensures.literals ∙ ap (λ x. c.args.self.now.trail.literals ++ x ∷ []) e) p o)
+    c.in_ok-push-in-Unit.ensures.literals p o)
 
 pub returns-in-False-clause-ready : goal.returns-in-False-clause-ready
 returns-in-False-clause-ready c = λ known ready.
@@ -85,5 +75,5 @@ pub returns-in_ok-self-in-Unit-clause-reasons : goal.returns-in_ok-self-in-Unit-
 returns-in_ok-self-in-Unit-clause-reasons c = λ h.
     subst (λ cs. AreReasoned cs c.propagate.new.trail) c.as_slice.ensures.value
     (c.in_ok-self-in-Unit.ensures.reasons (subst (λ cs. AreReasoned cs c.push.new.self) (sym c.as_slice.ensures.value)
-    (reasoned-none c.args.self.now.clauses.items c.args.self.now.trail c.push.new.self (to_z w32 (of_z w32 c.in-Unit.literal))
+    (reasoned-none c.args.self.now.clauses.items c.args.self.now.trail c.push.new.self c.in-Unit.literal
     c.in_ok-push-in-Unit.ensures.literals c.in_ok-push-in-Unit.ensures.reasons h)))

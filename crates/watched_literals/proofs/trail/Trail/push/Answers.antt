@@ -1,17 +1,15 @@
-use Rattle.std.proofs.Common.{◌≡◌, ◌++◌, ◌∷◌, [], true, false, set, sym, subst, ap, ◌∙◌, w32}
+use Rattle.std.proofs.Common.{◌≡◌, ◌++◌, ◌∷◌, [], true, false, set, sym, subst}
 use Rattle.std.specs.List.{list_any}
 use Rattle.std.specs.Ordering.{int_eq}
-use Rattle.std.proofs.lemmas.Int.{to_z-of_z}
-use Rattle.watched_literals.specs.Literals.{code, IsTruth, IsWithin}
+use Rattle.watched_literals.specs.Literals.{IsTruth, IsWithin}
 use Rattle.watched_literals.proofs.Truths.{truth-push}
 use Rattle.watched_literals.proofs.trail.Trail.push.Goals as goal
 
 pub invariant_of-self-2 : goal.invariant_of-self-2
 invariant_of-self-2 c =
-    let e = to_z-of_z w32 c.args.literal c.ranges.literal in
     let t = c.self.inside.truth.items in
-    subst (λ xs. IsTruth (set t c.code.result true) xs) (ap (λ x. c.self.inside.literals.items ++ x ∷ []) (sym e) ∙ sym c.in_ok-push-2.ensures.items)
-    (subst (λ k. IsTruth (set t k true) (c.self.inside.literals.items ++ c.args.literal ∷ [])) (ap code (sym e) ∙ sym c.code.ensures)
+    subst (λ xs. IsTruth (set t c.code.result true) xs) (sym c.in_ok-push-2.ensures.items)
+    (subst (λ k. IsTruth (set t k true) (c.self.inside.literals.items ++ c.args.literal ∷ [])) (sym c.code.ensures.code)
     (truth-push t c.self.inside.literals.items c.args.literal c.self.invariant
     (subst (λ v. IsWithin v.room c.args.literal) (sym c.self.view_is) c.requires.within)
     (subst (λ v. list_any (int_eq c.args.literal) v.literals ≡ false) (sym c.self.view_is) c.requires.fresh)))

@@ -1,16 +1,14 @@
-use Rattle.std.proofs.Common.{◌≡◌, ◌<◌, pos, length, get_or, refl, sym, subst, ◌∙◌, rules, w32, SFits, to_z, of_z, arith}
+use Rattle.std.proofs.Common.{◌<◌, length, refl, sym, subst, ◌∙◌, arith}
 use Rattle.std.proofs.lemmas.Bool.{false≢true}
-use Rattle.std.proofs.lemmas.Int.{to_z-of_z}
 use Rattle.watched_literals.specs.Watches.{Visits}
 use Rattle.watched_literals.proofs.Watching.{moves-on, rises-on, rises-keeps, rises-longer, watched-more, watched-all, fails-risen}
 use Rattle.watched_literals.proofs.watches.Watches.propagate.Goals as goal
 
 pub loop-visited-preserved : goal.loop-visited-preserved
 loop-visited-preserved c =
-    let f : SFits w32 c.get-literal.result = search rules in
     let test : c.loop-visited.visited < length c.loop-visited.trail.literals = omega (arith, c.len.ensures, c.loop-visited-test.true) in
-    let is : (to_z w32 (of_z w32 c.get-literal.result)) ≡ get_or c.loop-visited.trail.literals c.loop-visited.visited (pos 0) = to_z-of_z w32 c.get-literal.result f ∙ c.get-literal.ensures.literal in
-    let v = subst (λ n. Visits n c.args.clauses.now (to_z w32 (of_z w32 c.get-literal.result)) c.loop-visited.self.pairs.items c.loop-visited.trail.literals
+    let is = c.get-literal.ensures.literal in
+    let v = subst (λ n. Visits n c.args.clauses.now c.get-literal.result c.loop-visited.self.pairs.items c.loop-visited.trail.literals
     c.visit.new.self.pairs.items c.visit.new.self.rows.items c.visit.new.self.pending c.visit.new.trail.literals c.in_ok-visit.field-0) c.loop-visited.invariant.room c.in_ok-visit.ensures.visits in
     let rises = rises-on c.args.clauses.now c.args.trail.now.literals c.loop-visited.trail.literals c.visit.new.trail.literals c.loop-visited.invariant.rises v.rises in
     let moves = moves-on c.args.trail.now.literals c.loop-visited.trail.literals c.args.self.now.pairs.items c.loop-visited.self.pairs.items c.visit.new.self.pairs.items
@@ -23,17 +21,16 @@ loop-visited-preserved c =
       moves = moves;
       rises = rises;
       within = omega (arith, test, rises-longer c.args.clauses.now c.loop-visited.trail.literals c.visit.new.trail.literals v.rises);
-      watched = watched-more c.args.trail.now.room c.args.clauses.now (to_z w32 (of_z w32 c.get-literal.result)) c.loop-visited.visited c.loop-visited.self.pairs.items c.loop-visited.trail.literals
+      watched = watched-more c.args.trail.now.room c.args.clauses.now c.get-literal.result c.loop-visited.visited c.loop-visited.self.pairs.items c.loop-visited.trail.literals
           c.visit.new.self.pairs.items c.visit.new.self.rows.items c.visit.new.self.pending c.visit.new.trail.literals c.in_ok-visit.field-0 test is
           (λ k. false≢true (sym c.if-branch.false ∙ k)) c.loop-visited.invariant.watched v;
     }
 
 pub returns-then-branch-clause-propagates : goal.returns-then-branch-clause-propagates
 returns-then-branch-clause-propagates c =
-    let f : SFits w32 c.get-literal.result = search rules in
     let test : c.loop-visited.visited < length c.loop-visited.trail.literals = omega (arith, c.len.ensures, c.loop-visited-test.true) in
-    let is : (to_z w32 (of_z w32 c.get-literal.result)) ≡ get_or c.loop-visited.trail.literals c.loop-visited.visited (pos 0) = to_z-of_z w32 c.get-literal.result f ∙ c.get-literal.ensures.literal in
-    let v = subst (λ n. Visits n c.args.clauses.now (to_z w32 (of_z w32 c.get-literal.result)) c.loop-visited.self.pairs.items c.loop-visited.trail.literals
+    let is = c.get-literal.ensures.literal in
+    let v = subst (λ n. Visits n c.args.clauses.now c.get-literal.result c.loop-visited.self.pairs.items c.loop-visited.trail.literals
     c.visit.new.self.pairs.items c.visit.new.self.rows.items c.visit.new.self.pending c.visit.new.trail.literals c.in_ok-visit.field-0) c.loop-visited.invariant.room c.in_ok-visit.ensures.visits in
     let rises = rises-on c.args.clauses.now c.args.trail.now.literals c.loop-visited.trail.literals c.visit.new.trail.literals c.loop-visited.invariant.rises v.rises in
     let moves = moves-on c.args.trail.now.literals c.loop-visited.trail.literals c.args.self.now.pairs.items c.loop-visited.self.pairs.items c.visit.new.self.pairs.items

@@ -1,15 +1,12 @@
-use Rattle.std.proofs.Common.{◌≢◌, ◌<◌, ◌++◌, ◌∷◌, [], ℤ, true, false, neg_ℤ, length, set, get_or, sym, subst, ap, ◌∙◌, rules, w32, SFits, to_z, of_z, arith}
-use Rattle.std.proofs.lemmas.Int.{to_z-of_z}
+use Rattle.std.proofs.Common.{◌≢◌, ◌<◌, ◌++◌, ◌∷◌, [], ℤ, true, false, neg_ℤ, length, set, get_or, sym, subst, ap, ◌∙◌, arith}
 use Rattle.std.specs.List.{All, Contains, list_any}
 use Rattle.std.specs.Ordering.{int_eq}
 use Rattle.std.proofs.lemmas.List.Elements.{All-contains}
 use Rattle.watched_literals.proofs.Trails.{listed, unlisted}
-use Rattle.word_kit.specs.Formulas.{IsLiteral}
-use Rattle.watched_literals.specs.Literals.{code, IsWithin}
+use Rattle.watched_literals.specs.Literals.{IsWithin}
 use Rattle.watched_literals.specs.Watches.{Rewatches}
 use Rattle.watched_literals.proofs.Watching.{inside-of, watch-read, watch-within, watch-apart, opposite-within, clause-read, rewatch-true, rewatch-move, rewatch-false, rewatch-unit, unit-of}
 use Rattle.watched_literals.proofs.Reasons.{reasoned-unit}
-use Rattle.watched_literals.specs.Trails.{IsUnit}
 use Rattle.watched_literals.proofs.watches.Watches.rewatch.Goals as goal
 
 pub index-pair-requires : goal.index-pair-requires
@@ -24,10 +21,7 @@ holds-requires c =
     let at : c.args.place < length c.args.clauses.now = inside-of c.args.trail.now.room c.args.clauses.now c.args.self.now.pairs.items c.args.self.now.rows.items c.args.off c.args.self.now.pending c.args.place s in
     let j : c.args.place < length c.args.self.now.pairs.items = omega (arith, at, s.paired) in
     let w = watch-read c.args.self.now.pairs.items c.args.place c.index-pair.result.now c.beside-other.result j c.index-pair.ensures c.beside-other.ensures.watch in
-    let f : SFits w32 c.beside-other.result = search rules in
-    let e = to_z-of_z w32 c.beside-other.result f in
-    let g = to_z-of_z w32 c.args.off c.ranges.off in
-    subst (IsWithin c.args.trail.now.room) (sym e) (watch-within c.args.trail.now.room c.args.clauses.now c.args.self.now.pairs.items c.args.self.now.rows.items c.args.off (c.args.self.now.pending ++ c.args.place ∷ []) c.args.place c.beside-other.result s at w)
+    watch-within c.args.trail.now.room c.args.clauses.now c.args.self.now.pairs.items c.args.self.now.rows.items c.args.off (c.args.self.now.pending ++ c.args.place ∷ []) c.args.place c.beside-other.result s at w
 
 pub returns-then-holds-clause-rewatches : goal.returns-then-holds-clause-rewatches
 returns-then-holds-clause-rewatches c =
@@ -35,13 +29,10 @@ returns-then-holds-clause-rewatches c =
     let at : c.args.place < length c.args.clauses.now = inside-of c.args.trail.now.room c.args.clauses.now c.args.self.now.pairs.items c.args.self.now.rows.items c.args.off c.args.self.now.pending c.args.place s in
     let j : c.args.place < length c.args.self.now.pairs.items = omega (arith, at, s.paired) in
     let w = watch-read c.args.self.now.pairs.items c.args.place c.index-pair.result.now c.beside-other.result j c.index-pair.ensures c.beside-other.ensures.watch in
-    let f : SFits w32 c.beside-other.result = search rules in
-    let e = to_z-of_z w32 c.beside-other.result f in
-    let g = to_z-of_z w32 c.args.off c.ranges.off in
     subst (λ rs. Rewatches c.args.trail.now.room c.args.clauses.now c.args.off c.args.place c.args.self.now.pairs.items c.args.self.now.rows.items c.args.self.now.pending c.args.trail.now.literals c.args.self.now.pairs.items rs c.args.self.now.pending c.args.trail.now.literals false)
-    (ap (λ l. set c.args.self.now.rows.items (code l) (get_or c.args.self.now.rows.items (code l) [] ++ c.args.place ∷ [])) (sym g) ∙ sym c.in_ok-list.ensures)
+    (sym c.in_ok-list.ensures)
     (rewatch-true c.args.trail.now.room c.args.clauses.now c.args.off c.args.place c.args.self.now.pairs.items c.args.self.now.rows.items c.args.self.now.pending c.args.trail.now.literals c.beside-other.result s c.requires.off.code_in w
-    (listed c.args.trail.now.literals c.beside-other.result (ap (λ l. list_any (int_eq l) c.args.trail.now.literals) (sym e) ∙ sym c.if-holds.ensures)))
+    (listed c.args.trail.now.literals c.beside-other.result (sym c.if-holds.ensures)))
 
 pub unfalse-requires : goal.unfalse-requires
 unfalse-requires c =
@@ -55,42 +46,16 @@ index_mut-requires c =
     let at : c.args.place < length c.args.clauses.now = inside-of c.args.trail.now.room c.args.clauses.now c.args.self.now.pairs.items c.args.self.now.rows.items c.args.off c.args.self.now.pending c.args.place s in
     omega (arith, at, s.paired, c.args.self.now.pairs.ok.0)
 
-pub list-requires-in-Some-clause-literal : goal.list-requires-in-Some-clause-literal
-list-requires-in-Some-clause-literal c =
+pub list-requires-in-Some : goal.list-requires-in-Some
+list-requires-in-Some c =
     let s = c.requires.stored in
     let at : c.args.place < length c.args.clauses.now = inside-of c.args.trail.now.room c.args.clauses.now c.args.self.now.pairs.items c.args.self.now.rows.items c.args.off c.args.self.now.pending c.args.place s in
     let j : c.args.place < length c.args.self.now.pairs.items = omega (arith, at, s.paired) in
     let w = watch-read c.args.self.now.pairs.items c.args.place c.index-pair.result.now c.beside-other.result j c.index-pair.ensures c.beside-other.ensures.watch in
-    let f : SFits w32 c.in-Some.one = search rules in
-    let e = to_z-of_z w32 c.in-Some.one f in
     let clause = clause-read c.args.clauses.now c.args.place c.index-clauses-place.result c.as_slice.result.now at c.index-clauses-place.is c.as_slice.ensures in
     let i = subst (λ xs. Contains xs c.in-Some.one) clause c.in-Some.ensures.0 in
     let in_room : IsWithin c.args.trail.now.room c.in-Some.one = All-contains (IsWithin c.args.trail.now.room) (get_or c.args.clauses.now c.args.place []) c.in-Some.one (s.within c.args.place at) i in
-    subst IsLiteral (sym e) in_room.is_literal
-
-pub list-requires-in-Some-clause-within : goal.list-requires-in-Some-clause-within
-list-requires-in-Some-clause-within c =
-    let s = c.requires.stored in
-    let at : c.args.place < length c.args.clauses.now = inside-of c.args.trail.now.room c.args.clauses.now c.args.self.now.pairs.items c.args.self.now.rows.items c.args.off c.args.self.now.pending c.args.place s in
-    let j : c.args.place < length c.args.self.now.pairs.items = omega (arith, at, s.paired) in
-    let w = watch-read c.args.self.now.pairs.items c.args.place c.index-pair.result.now c.beside-other.result j c.index-pair.ensures c.beside-other.ensures.watch in
-    let f : SFits w32 c.in-Some.one = search rules in
-    let e = to_z-of_z w32 c.in-Some.one f in
-    let clause = clause-read c.args.clauses.now c.args.place c.index-clauses-place.result c.as_slice.result.now at c.index-clauses-place.is c.as_slice.ensures in
-    let i = subst (λ xs. Contains xs c.in-Some.one) clause c.in-Some.ensures.0 in
-    let in_room : IsWithin c.args.trail.now.room c.in-Some.one = All-contains (IsWithin c.args.trail.now.room) (get_or c.args.clauses.now c.args.place []) c.in-Some.one (s.within c.args.place at) i in
-    subst (λ l. code l < length c.args.self.now.rows.items) (sym e) (omega (arith, in_room.code_in, s.rowed))
-
-pub opposite-requires : goal.opposite-requires
-opposite-requires c =
-    let s = c.requires.stored in
-    let at : c.args.place < length c.args.clauses.now = inside-of c.args.trail.now.room c.args.clauses.now c.args.self.now.pairs.items c.args.self.now.rows.items c.args.off c.args.self.now.pending c.args.place s in
-    let j : c.args.place < length c.args.self.now.pairs.items = omega (arith, at, s.paired) in
-    let w = watch-read c.args.self.now.pairs.items c.args.place c.index-pair.result.now c.beside-other.result j c.index-pair.ensures c.beside-other.ensures.watch in
-    let f : SFits w32 c.beside-other.result = search rules in
-    let e = to_z-of_z w32 c.beside-other.result f in
-    let g = to_z-of_z w32 c.args.off c.ranges.off in
-    subst IsLiteral (sym e) (watch-within c.args.trail.now.room c.args.clauses.now c.args.self.now.pairs.items c.args.self.now.rows.items c.args.off (c.args.self.now.pending ++ c.args.place ∷ []) c.args.place c.beside-other.result s at w).is_literal
+    omega (arith, in_room.code_in, s.rowed)
 
 pub holds-requires-in-None : goal.holds-requires-in-None
 holds-requires-in-None c =
@@ -98,12 +63,7 @@ holds-requires-in-None c =
     let at : c.args.place < length c.args.clauses.now = inside-of c.args.trail.now.room c.args.clauses.now c.args.self.now.pairs.items c.args.self.now.rows.items c.args.off c.args.self.now.pending c.args.place s in
     let j : c.args.place < length c.args.self.now.pairs.items = omega (arith, at, s.paired) in
     let w = watch-read c.args.self.now.pairs.items c.args.place c.index-pair.result.now c.beside-other.result j c.index-pair.ensures c.beside-other.ensures.watch in
-    let f : SFits w32 c.beside-other.result = search rules in
-    let e = to_z-of_z w32 c.beside-other.result f in
-    let g = to_z-of_z w32 c.args.off c.ranges.off in
-    let h : SFits w32 c.opposite.result = search rules in
-    let q = to_z-of_z w32 c.opposite.result h ∙ c.opposite.ensures ∙ ap neg_ℤ e in
-    subst (IsWithin c.args.trail.now.room) (sym q) (opposite-within c.args.trail.now.room c.beside-other.result (watch-within c.args.trail.now.room c.args.clauses.now c.args.self.now.pairs.items c.args.self.now.rows.items c.args.off (c.args.self.now.pending ++ c.args.place ∷ []) c.args.place c.beside-other.result s at w))
+    subst (IsWithin c.args.trail.now.room) (sym c.opposite.ensures) (opposite-within c.args.trail.now.room c.beside-other.result (watch-within c.args.trail.now.room c.args.clauses.now c.args.self.now.pairs.items c.args.self.now.rows.items c.args.off (c.args.self.now.pending ++ c.args.place ∷ []) c.args.place c.beside-other.result s at w))
 
 pub returns-then-holds-2-clause-rewatches : goal.returns-then-holds-2-clause-rewatches
 returns-then-holds-2-clause-rewatches c =
@@ -111,17 +71,12 @@ returns-then-holds-2-clause-rewatches c =
     let at : c.args.place < length c.args.clauses.now = inside-of c.args.trail.now.room c.args.clauses.now c.args.self.now.pairs.items c.args.self.now.rows.items c.args.off c.args.self.now.pending c.args.place s in
     let j : c.args.place < length c.args.self.now.pairs.items = omega (arith, at, s.paired) in
     let w = watch-read c.args.self.now.pairs.items c.args.place c.index-pair.result.now c.beside-other.result j c.index-pair.ensures c.beside-other.ensures.watch in
-    let f : SFits w32 c.beside-other.result = search rules in
-    let e = to_z-of_z w32 c.beside-other.result f in
-    let g = to_z-of_z w32 c.args.off c.ranges.off in
-    let h : SFits w32 c.opposite.result = search rules in
-    let q = to_z-of_z w32 c.opposite.result h ∙ c.opposite.ensures ∙ ap neg_ℤ e in
     let clause = clause-read c.args.clauses.now c.args.place c.index-clauses-place.result c.as_slice.result.now at c.index-clauses-place.is c.as_slice.ensures in
     subst (λ ps. Rewatches c.args.trail.now.room c.args.clauses.now c.args.off c.args.place c.args.self.now.pairs.items c.args.self.now.rows.items c.args.self.now.pending c.args.trail.now.literals c.args.self.now.pairs.items c.args.self.now.rows.items ps c.args.trail.now.literals true)
     (sym c.in_ok-push-in-None.ensures)
     (rewatch-false c.args.trail.now.room c.args.clauses.now c.args.off c.args.place c.args.self.now.pairs.items c.args.self.now.rows.items c.args.self.now.pending c.args.trail.now.literals c.beside-other.result s
-    (listed c.args.trail.now.literals (neg_ℤ c.beside-other.result) (ap (λ l. list_any (int_eq l) c.args.trail.now.literals) (sym q) ∙ sym c.if-holds-2.ensures))
-    (λ l i ne. c.in-None.ensures l (subst (λ xs. Contains xs l) (sym clause) i) (λ k. ne (k ∙ e))))
+    (listed c.args.trail.now.literals (neg_ℤ c.beside-other.result) (ap (λ l. list_any (int_eq l) c.args.trail.now.literals) (sym c.opposite.ensures) ∙ sym c.if-holds-2.ensures))
+    (λ l i ne. c.in-None.ensures l (subst (λ xs. Contains xs l) (sym clause) i) ne))
 
 pub push-requires-in-None-clause-within : goal.push-requires-in-None-clause-within
 push-requires-in-None-clause-within c =
@@ -129,10 +84,7 @@ push-requires-in-None-clause-within c =
     let at : c.args.place < length c.args.clauses.now = inside-of c.args.trail.now.room c.args.clauses.now c.args.self.now.pairs.items c.args.self.now.rows.items c.args.off c.args.self.now.pending c.args.place s in
     let j : c.args.place < length c.args.self.now.pairs.items = omega (arith, at, s.paired) in
     let w = watch-read c.args.self.now.pairs.items c.args.place c.index-pair.result.now c.beside-other.result j c.index-pair.ensures c.beside-other.ensures.watch in
-    let f : SFits w32 c.beside-other.result = search rules in
-    let e = to_z-of_z w32 c.beside-other.result f in
-    let g = to_z-of_z w32 c.args.off c.ranges.off in
-    subst (IsWithin c.args.trail.now.room) (sym e) (watch-within c.args.trail.now.room c.args.clauses.now c.args.self.now.pairs.items c.args.self.now.rows.items c.args.off (c.args.self.now.pending ++ c.args.place ∷ []) c.args.place c.beside-other.result s at w)
+    watch-within c.args.trail.now.room c.args.clauses.now c.args.self.now.pairs.items c.args.self.now.rows.items c.args.off (c.args.self.now.pending ++ c.args.place ∷ []) c.args.place c.beside-other.result s at w
 
 pub returns-in_ok-list-in-Some-clause-rewatches : goal.returns-in_ok-list-in-Some-clause-rewatches
 returns-in_ok-list-in-Some-clause-rewatches c =
@@ -140,23 +92,14 @@ returns-in_ok-list-in-Some-clause-rewatches c =
     let at : c.args.place < length c.args.clauses.now = inside-of c.args.trail.now.room c.args.clauses.now c.args.self.now.pairs.items c.args.self.now.rows.items c.args.off c.args.self.now.pending c.args.place s in
     let j : c.args.place < length c.args.self.now.pairs.items = omega (arith, at, s.paired) in
     let w = watch-read c.args.self.now.pairs.items c.args.place c.index-pair.result.now c.beside-other.result j c.index-pair.ensures c.beside-other.ensures.watch in
-    let f : SFits w32 c.in-Some.one = search rules in
-    let e = to_z-of_z w32 c.in-Some.one f in
     let clause = clause-read c.args.clauses.now c.args.place c.index-clauses-place.result c.as_slice.result.now at c.index-clauses-place.is c.as_slice.ensures in
     let i = subst (λ xs. Contains xs c.in-Some.one) clause c.in-Some.ensures.0 in
     let in_room : IsWithin c.args.trail.now.room c.in-Some.one = All-contains (IsWithin c.args.trail.now.room) (get_or c.args.clauses.now c.args.place []) c.in-Some.one (s.within c.args.place at) i in
-    let fo : SFits w32 c.beside-other.result = search rules in
-    let eo = to_z-of_z w32 c.beside-other.result fo in
-    let g = to_z-of_z w32 c.args.off c.ranges.off in
     let apart = c.beside-other.ensures.apart (watch-apart c.args.trail.now.room c.args.clauses.now c.args.self.now.pairs.items c.args.self.now.rows.items c.args.off (c.args.self.now.pending ++ c.args.place ∷ []) c.args.place c.index-pair.result.now s at c.index-pair.ensures) in
-    subst (λ x. Rewatches c.args.trail.now.room c.args.clauses.now c.args.off c.args.place c.args.self.now.pairs.items c.args.self.now.rows.items c.args.self.now.pending c.args.trail.now.literals
-    (set c.args.self.now.pairs.items c.args.place (record { one = x; other = to_z w32 (of_z w32 c.beside-other.result) })) c.list-in-Some.new.rows.items c.args.self.now.pending c.args.trail.now.literals false) (sym e)
-    (subst (λ x. Rewatches c.args.trail.now.room c.args.clauses.now c.args.off c.args.place c.args.self.now.pairs.items c.args.self.now.rows.items c.args.self.now.pending c.args.trail.now.literals
-    (set c.args.self.now.pairs.items c.args.place (record { one = c.in-Some.one; other = x })) c.list-in-Some.new.rows.items c.args.self.now.pending c.args.trail.now.literals false) (sym eo)
-    (subst (λ rs. Rewatches c.args.trail.now.room c.args.clauses.now c.args.off c.args.place c.args.self.now.pairs.items c.args.self.now.rows.items c.args.self.now.pending c.args.trail.now.literals (set c.args.self.now.pairs.items c.args.place (record { one = c.in-Some.one; other = c.beside-other.result })) rs c.args.self.now.pending c.args.trail.now.literals false)
-    (ap (λ l. set c.args.self.now.rows.items (code l) (get_or c.args.self.now.rows.items (code l) [] ++ c.args.place ∷ [])) (sym e) ∙ sym c.in_ok-list-in-Some.ensures)
-    (rewatch-move c.args.trail.now.room c.args.clauses.now c.args.off c.args.place c.args.self.now.pairs.items c.args.self.now.rows.items c.args.self.now.pending c.args.trail.now.literals c.in-Some.one c.beside-other.result s w (λ k. apart (k ∙ sym g)) c.requires.false_off i
-    (λ k. c.in-Some.ensures.1 (k ∙ sym eo)) c.in-Some.ensures.2)))
+    subst (λ rs. Rewatches c.args.trail.now.room c.args.clauses.now c.args.off c.args.place c.args.self.now.pairs.items c.args.self.now.rows.items c.args.self.now.pending c.args.trail.now.literals (set c.args.self.now.pairs.items c.args.place (record { one = c.in-Some.one; other = c.beside-other.result })) rs c.args.self.now.pending c.args.trail.now.literals false)
+    (sym c.in_ok-list-in-Some.ensures)
+    (rewatch-move c.args.trail.now.room c.args.clauses.now c.args.off c.args.place c.args.self.now.pairs.items c.args.self.now.rows.items c.args.self.now.pending c.args.trail.now.literals c.in-Some.one c.beside-other.result s w apart c.requires.false_off i
+    c.in-Some.ensures.1 c.in-Some.ensures.2)
 
 pub returns-in_ok-list-in-None-clause-rewatches : goal.returns-in_ok-list-in-None-clause-rewatches
 returns-in_ok-list-in-None-clause-rewatches c =
@@ -164,20 +107,15 @@ returns-in_ok-list-in-None-clause-rewatches c =
     let at : c.args.place < length c.args.clauses.now = inside-of c.args.trail.now.room c.args.clauses.now c.args.self.now.pairs.items c.args.self.now.rows.items c.args.off c.args.self.now.pending c.args.place s in
     let j : c.args.place < length c.args.self.now.pairs.items = omega (arith, at, s.paired) in
     let w = watch-read c.args.self.now.pairs.items c.args.place c.index-pair.result.now c.beside-other.result j c.index-pair.ensures c.beside-other.ensures.watch in
-    let f : SFits w32 c.beside-other.result = search rules in
-    let e = to_z-of_z w32 c.beside-other.result f in
-    let g = to_z-of_z w32 c.args.off c.ranges.off in
-    let h : SFits w32 c.opposite.result = search rules in
-    let q = to_z-of_z w32 c.opposite.result h ∙ c.opposite.ensures ∙ ap neg_ℤ e in
     let clause = clause-read c.args.clauses.now c.args.place c.index-clauses-place.result c.as_slice.result.now at c.index-clauses-place.is c.as_slice.ensures in
     subst (λ ts. Rewatches c.args.trail.now.room c.args.clauses.now c.args.off c.args.place c.args.self.now.pairs.items c.args.self.now.rows.items c.args.self.now.pending c.args.trail.now.literals c.args.self.now.pairs.items c.list-in-None.new.rows.items c.args.self.now.pending ts false)
-    (ap (λ x. c.args.trail.now.literals ++ x ∷ []) (sym e) ∙ sym c.in_ok-push-in-None-2.ensures.literals)
+    (sym c.in_ok-push-in-None-2.ensures.literals)
     (subst (λ rs. Rewatches c.args.trail.now.room c.args.clauses.now c.args.off c.args.place c.args.self.now.pairs.items c.args.self.now.rows.items c.args.self.now.pending c.args.trail.now.literals c.args.self.now.pairs.items rs c.args.self.now.pending (c.args.trail.now.literals ++ c.beside-other.result ∷ []) false)
-    (ap (λ l. set c.args.self.now.rows.items (code l) (get_or c.args.self.now.rows.items (code l) [] ++ c.args.place ∷ [])) (sym g) ∙ sym c.in_ok-list-in-None.ensures)
+    (sym c.in_ok-list-in-None.ensures)
     (rewatch-unit c.args.trail.now.room c.args.clauses.now c.args.off c.args.place c.args.self.now.pairs.items c.args.self.now.rows.items c.args.self.now.pending c.args.trail.now.literals c.beside-other.result s c.requires.off.code_in w
-    (unlisted c.args.trail.now.literals c.beside-other.result (ap (λ l. list_any (int_eq l) c.args.trail.now.literals) (sym e) ∙ sym c.if-holds.ensures))
-    (unlisted c.args.trail.now.literals (neg_ℤ c.beside-other.result) (ap (λ l. list_any (int_eq l) c.args.trail.now.literals) (sym q) ∙ sym c.if-holds-2.ensures))
-    (λ l i ne. c.in-None.ensures l (subst (λ xs. Contains xs l) (sym clause) i) (λ k. ne (k ∙ e)))))
+    (unlisted c.args.trail.now.literals c.beside-other.result (sym c.if-holds.ensures))
+    (unlisted c.args.trail.now.literals (neg_ℤ c.beside-other.result) (ap (λ l. list_any (int_eq l) c.args.trail.now.literals) (sym c.opposite.ensures) ∙ sym c.if-holds-2.ensures))
+    (λ l i ne. c.in-None.ensures l (subst (λ xs. Contains xs l) (sym clause) i) ne)))
 
 pub returns-in_ok-list-in-None-clause-reasons : goal.returns-in_ok-list-in-None-clause-reasons
 returns-in_ok-list-in-None-clause-reasons c =
@@ -185,17 +123,12 @@ returns-in_ok-list-in-None-clause-reasons c =
     let at : c.args.place < length c.args.clauses.now = inside-of c.args.trail.now.room c.args.clauses.now c.args.self.now.pairs.items c.args.self.now.rows.items c.args.off c.args.self.now.pending c.args.place s in
     let j : c.args.place < length c.args.self.now.pairs.items = omega (arith, at, s.paired) in
     let w = watch-read c.args.self.now.pairs.items c.args.place c.index-pair.result.now c.beside-other.result j c.index-pair.ensures c.beside-other.ensures.watch in
-    let f : SFits w32 c.beside-other.result = search rules in
-    let e = to_z-of_z w32 c.beside-other.result f in
-    let g = to_z-of_z w32 c.args.off c.ranges.off in
-    let h : SFits w32 c.opposite.result = search rules in
-    let q = to_z-of_z w32 c.opposite.result h ∙ c.opposite.ensures ∙ ap neg_ℤ e in
     let clause = clause-read c.args.clauses.now c.args.place c.index-clauses-place.result c.as_slice.result.now at c.index-clauses-place.is c.as_slice.ensures in
-    let others = (λ (l : ℤ) (i : Contains (get_or c.args.clauses.now c.args.place []) l) (ne : l ≢ c.beside-other.result). c.in-None.ensures l (subst (λ xs. Contains xs l) (sym clause) i) (λ k. ne (k ∙ e))) in
+    let others = (λ (l : ℤ) (i : Contains (get_or c.args.clauses.now c.args.place []) l) (ne : l ≢ c.beside-other.result). c.in-None.ensures l (subst (λ xs. Contains xs l) (sym clause) i) ne) in
     let u = unit-of c.args.trail.now.room c.args.clauses.now c.args.off c.args.place c.args.self.now.pairs.items c.args.self.now.rows.items (c.args.self.now.pending ++ c.args.place ∷ []) c.args.trail.now.literals c.beside-other.result s at w
-    (unlisted c.args.trail.now.literals c.beside-other.result (ap (λ l. list_any (int_eq l) c.args.trail.now.literals) (sym e) ∙ sym c.if-holds.ensures))
-    (unlisted c.args.trail.now.literals (neg_ℤ c.beside-other.result) (ap (λ l. list_any (int_eq l) c.args.trail.now.literals) (sym q) ∙ sym c.if-holds-2.ensures))
+    (unlisted c.args.trail.now.literals c.beside-other.result (sym c.if-holds.ensures))
+    (unlisted c.args.trail.now.literals (neg_ℤ c.beside-other.result) (ap (λ l. list_any (int_eq l) c.args.trail.now.literals) (sym c.opposite.ensures) ∙ sym c.if-holds-2.ensures))
     others in
-    λ h. reasoned-unit c.args.clauses.now c.args.trail.now c.push-in-None.new.self (to_z w32 (of_z w32 c.beside-other.result)) c.args.place
+    λ h. reasoned-unit c.args.clauses.now c.args.trail.now c.push-in-None.new.self c.beside-other.result c.args.place
     c.in_ok-push-in-None-2.ensures.literals c.in_ok-push-in-None-2.ensures.reasons at
-    (subst (IsUnit c.args.trail.now.literals (get_or c.args.clauses.now c.args.place [])) (sym e) u) h
+    u h
