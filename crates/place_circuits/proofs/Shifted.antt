@@ -1,5 +1,5 @@
 -- Bits by shifts to the left and to the right.
-use Rattle.std.proofs.Common.{◌≡◌, ℕ, zero, suc, ◌+◌, ◌-◌, ◌*◌, ◌/◌, ◌%◌, ◌^◌, ◌<◌, ◌≤◌, refl, sym, ◌∙◌, ap, arith}
+use Rattle.std.proofs.Common.{◌≡◌, ℕ, ◌+◌, ◌-◌, ◌*◌, ◌/◌, ◌%◌, ◌^◌, ◌<◌, ◌≤◌, sym, ◌∙◌, ap, arith}
 use Rattle.std.proofs.lemmas.Nat.{mod-pow-add, div-mul-add, pow_pos, pow-add}
 use Rattle.std.proofs.Math.Nat.{mul-mod_left, mul-div_cancel, mul-div-mul_right, mod-lt}
 use Rattle.word_kit.specs.Bits.{shifted_left, shifted_right}

@@ -1,7 +1,7 @@
 -- What rows and ops read of places.
-use Rattle.std.specs.Prelude.{◌⊎◌, ◌≡◌, ◌<◌, ◌≤◌, ◌+◌, ℕ, Bool, false, Option, Some, None}
+use Rattle.std.specs.Prelude.{◌⊎◌, ◌≡◌, ◌<◌, ◌≤◌, ◌+◌, ℕ, false, Option, Some, None}
 use Rattle.word_kit.specs.Words.{sum_word}
-use Rattle.word_kit.specs.Bits.{shifted_left, byte_of}
+use Rattle.word_kit.specs.Bits.{shifted_left}
 use Rattle.row_runs.specs.Accesses.{little_number, cut}
 use Rattle.place_circuits.specs.Numbers.{IsNumber, number_value}
 use Rattle.place_circuits.specs.declared.sources.Address.{Address}
