@@ -1,0 +1,5 @@
+pub mod Places
+pub mod Fields
+pub mod Numbers
+pub mod Sources
+pub mod Results

@@ -1,0 +1,70 @@
+-- Rows of a window over places. The guest's places are six general registers, CR, XER, LR and CTR, and constants.
+use Rattle.std.specs.Prelude.{◌≡◌, ◌<◌, ◌≤◌, ℕ, Bool, Option, Some, None}
+use Rattle.circuit.specs.Literals.{lit_truth, lit_reach}
+use Rattle.ppc_isa.specs.Legal.{IsLegal}
+use Rattle.ppc_isa.specs.Effect.{GuestValues, Effect}
+use Rattle.row_runs.specs.Windows.{Row, WindowRun}
+use Rattle.access_circuits.specs.Lists.{AreAccesses, AccessesOwned}
+use Rattle.place_circuits.specs.Places.{HoldsPlaces, PlacesOwned, with_place}
+use Rattle.place_circuits.specs.Sources.{IsSource, source_value}
+use Rattle.row_circuits.specs.declared.rows.WindowRow.{WindowRow}
+use Rattle.row_circuits.specs.declared.rows.WindowCircuit.{WindowCircuit}
+
+abbrev pub cr_place : ℕ
+cr_place = 6
+
+abbrev pub xer_place : ℕ
+xer_place = 7
+
+abbrev pub lr_place : ℕ
+lr_place = 11
+
+abbrev pub ctr_place : ℕ
+ctr_place = 12
+
+abbrev pub IsTarget : Option ℕ → Type 0
+IsTarget None = Unit {0}
+IsTarget (Some p) = p < 64
+
+pub record IsWindowRow (row : WindowRow) : Type 0 where
+  pub legal : IsLegal row.instr
+  pub a : IsSource row.a
+  pub b : IsSource row.b
+  pub s : IsSource row.s
+  pub d_to : IsTarget row.d_to
+  pub a_to : IsTarget row.a_to
+
+-- a number at a place, if it goes anywhere
+abbrev pub with_target : Option ℕ → ℕ → (ℕ → ℕ) → ℕ → ℕ
+with_target None n t = t
+with_target (Some p) n t = with_place p n t
+
+abbrev pub row_reads : WindowRow → (ℕ → ℕ) → GuestValues
+row_reads row t = record {
+  a = source_value row.a t;
+  b = source_value row.b t;
+  s = source_value row.s t;
+  cr = t cr_place;
+  xer = t xer_place;
+  lr = t lr_place;
+  ctr = t ctr_place;
+  loaded = 0;
+}
+
+abbrev pub row_puts : WindowRow → Effect → (ℕ → ℕ) → ℕ → ℕ
+row_puts row e t = with_place ctr_place e.ctr (with_place lr_place e.lr (with_place xer_place e.xer (with_place cr_place e.cr (with_target row.a_to e.a (with_target row.d_to e.d t)))))
+
+-- the row as it runs over numbers
+abbrev pub row_of : WindowRow → Row
+row_of row = record { instr = row.instr; reads = row_reads row; puts = row_puts row }
+
+-- the gates show where a run stands
+pub record ShowsWindow (w : ℕ → Bool) (window : WindowCircuit) (run : WindowRun) : Type 0 where
+  pub places : HoldsPlaces w window.places run.places
+  pub accesses : AreAccesses w window.accesses.items run.accesses
+  pub taken : lit_truth window.taken w ≡ run.taken
+
+pub record WindowOwned (extent : ℕ) (window : WindowCircuit) : Type 0 where
+  pub places : PlacesOwned extent window.places
+  pub accesses : AccessesOwned extent window.accesses.items
+  pub taken : lit_reach window.taken ≤ extent

@@ -1,0 +1,42 @@
+use Rattle.std.proofs.Common.{◌≡◌, ◌<◌, ◌≤◌, length, sym, refl, ap, subst, arith, length-set, ◌∙◌}
+use Rattle.circuit.specs.Literals.{word_value, word_reach_below}
+use Rattle.circuit.specs.Nodes.{AllAgree, IsInput, free_count}
+use Rattle.chosen_inputs.specs.Choices.{both, chosen_map, chosen_none_at}
+use Rattle.window_circuits.proofs.Putting.{put_step}
+use Rattle.window_circuits.proofs.inputs.input_places.Goals as goal
+
+pub loop-i-init : goal.loop-i-init
+loop-i-init c =
+    let e = c.lit-zero.ensures.same in
+    let z : length c.lit-zero.new.self.nodes.keys ≡ length c.args.gates.now.nodes.keys = ap (λ s. length s.nodes.keys) e in
+    record {
+      wide = refl;
+      later = record { grows = omega (arith, z); earlier = λ v h. subst (λ s. AllAgree s.nodes.keys v) e h; inputs = λ k h. subst (λ s. IsInput s.nodes.keys k) (sym e) h; opaque = ap (λ s. free_count s.nodes.keys) e };
+      owned = λ k l. absurd (omega (arith, l));
+      chosen = λ t h. chosen_none_at _ _ _ (ap (λ s. s.nodes.keys) e) (λ w k l. absurd (omega (arith, l)));
+    }
+
+pub loop-i-preserved : goal.loop-i-preserved
+loop-i-preserved c =
+    let i = c.loop-i.i in
+    let n = c.loop-i.invariant.wide in
+    let inside : i < length c.loop-i.words = omega arith in
+    let p = c.loop-i.invariant.later in
+    let q = c.in_ok-word.ensures.later in
+    let k0 = c.args.gates.now.nodes.keys in
+    let k1 = c.loop-i.gates.nodes.keys in
+    let k2 = c.input_word.new.gates.nodes.keys in
+    let s = length-set c.loop-i.words i c.in_ok-word.word in
+    record {
+      wide = omega (arith, s, n);
+      later = record { grows = omega (arith, p.grows, q.grows); earlier = λ v h. p.earlier v (q.earlier v h); inputs = λ k h. q.inputs k (p.inputs k h); opaque = q.opaque ∙ p.opaque };
+      owned = put_step (λ k x. word_reach_below 32 x ≤ length k2) i c.loop-i.words c.in_ok-word.word inside (λ k l. let o = c.loop-i.invariant.owned k l in omega (arith, o, q.grows)) c.in_ok-word.ensures.owned;
+      chosen = λ t h. chosen_map k0 k2 _ _ (λ w q. put_step (λ k x. word_value 32 x w ≡ t k) i c.loop-i.words c.in_ok-word.word inside q.0 q.1)
+          (both k0 k1 k2 _ _ p.grows q.inputs (c.loop-i.invariant.chosen t h) (c.in_ok-word.ensures.chosen (t i) (h i (omega arith))));
+    }
+
+pub returns-clause-chosen : goal.returns-clause-chosen
+returns-clause-chosen c = λ t h. chosen_map _ _ _ _ (λ w q. record { each = λ k l. q k (omega arith) }) (c.loop-i.invariant.chosen t h)
+
+pub returns-clause-owned : goal.returns-clause-owned
+returns-clause-owned c = record { each = λ k l. c.loop-i.invariant.owned k (omega arith) }

@@ -1,0 +1,14 @@
+use Rattle.std.proofs.Common.{◌≡◌, ℕ, ◌<◌, ◌≤◌, length, slice_index_or, []}
+use Rattle.circuit.specs.Literals.{word_value, word_reach_below}
+use Rattle.circuit.specs.Frame.{IsLater}
+use Rattle.chosen_inputs.specs.Choices.{CanChoose}
+use Rattle.window_circuits.specs.Starts.{AreWithin}
+use Rattle.window_circuits.proofs.inputs.input_places.Given as goal
+
+abbrev pub invariant-loop-i : goal.invariant-loop-i
+invariant-loop-i l = record {
+  wide : length l.words ≡ 64;
+  later : IsLater l.fn.gates.nodes.keys l.gates.nodes.keys;
+  owned : (k : ℕ) → k < l.i → word_reach_below 32 (slice_index_or l.words k []) ≤ length l.gates.nodes.keys;
+  chosen : (t : ℕ → ℕ) → AreWithin l.widths t → CanChoose l.fn.gates.nodes.keys l.gates.nodes.keys (λ w. (k : ℕ) → k < l.i → word_value 32 (slice_index_or l.words k []) w ≡ t k);
+}

@@ -1,0 +1,14 @@
+use Rattle.std.proofs.Common.{ℕ, Bool, length}
+use Rattle.circuit.specs.Nodes.{AllAgree}
+use Rattle.circuit.specs.Frame.{IsLater}
+use Rattle.place_circuits.specs.Places.{HoldsPlaces, PlacesOwned}
+use Rattle.window_circuits.specs.Starts.{with_homes}
+use Rattle.window_circuits.proofs.starts.host_places.Given as goal
+
+abbrev pub invariant-loop-i : goal.invariant-loop-i
+invariant-loop-i l = record {
+  later : IsLater l.fn.gates.nodes.keys l.gates.nodes.keys;
+  owned : PlacesOwned (length l.gates.nodes.keys) l.places;
+  inputs_owned : PlacesOwned (length l.gates.nodes.keys) l.inputs;
+  means : (w : ℕ → Bool) (t : ℕ → ℕ) → AllAgree l.gates.nodes.keys w → HoldsPlaces w l.inputs t → HoldsPlaces w l.places (with_homes l.i l.homes t);
+}
