@@ -1,0 +1,58 @@
+-- What the steps of a block's plans cost, this project's own: the sum of what the ops cost.
+use Rattle.std.specs.Prelude.{◌≡◌, ℕ, ◌+◌, ◌<◌, List, length, slice_index_or, Option, Some, None, if◌then◌else◌}
+use Rattle.std.specs.List.{sum_by}
+use Rattle.ppc_isa.specs.declared.map.Map.{Map}
+use Rattle.ppc_isa.specs.declared.instr.Instr.{Instr}
+use Rattle.ppc_isa.specs.Legal.{IsLegal}
+use Rattle.ia_codec.specs.declared.op.Op.{Op}
+use Rattle.ia_codec.specs.Cost.{cost_of}
+use Rattle.reg_map.specs.declared.moves.Move.{Move}
+use Rattle.reg_map.specs.Moves.{move_code}
+use Rattle.row_laws.specs.FlowWords.{is_flow}
+use Rattle.symbolic_tiles.specs.declared.flow_op.FlowOp.{FlowOp}
+use Rattle.symbolic_tiles.specs.declared.flow_op.FlowOp.TheVariants.{Plain, Jump, Mark, Edge, Leap}
+use Rattle.symbolic_tiles.specs.TileItems.{flows_of}
+use Rattle.base_alu.specs.Tile.{tile as alu_tile}
+use Rattle.base_mem.specs.Tile.{has_access, tile as access_tile}
+use Rattle.base_flow.specs.Tile.{tile as flow_tile, illegal_items, LeavesEbx}
+
+-- a move costs what its op does, and nothing where it has none
+abbrev pub code_cost : Option Op → ℕ
+code_cost None = 0
+code_cost (Some op) = cost_of op
+
+-- by the bits of the locations that are live
+abbrev pub move_price : ℕ → Map → Move → ℕ
+move_price live m step = code_cost (move_code m step live)
+
+-- An edge has no price, its jump neither. The indirect sequence is and, mov, sub, cmp and jcc, which cost 1 each, and a jump
+-- by a word of the table in memory, which costs 3.
+abbrev pub item_cost : FlowOp → ℕ
+item_cost (Plain op) = cost_of op
+item_cost (Jump condition mark) = 1
+item_cost (Mark mark) = 0
+item_cost (Edge target) = 0
+item_cost Leap = 8
+
+-- the base tile of a word that is no flow word
+abbrev pub straight_tile : Instr → Map → List Op
+straight_tile i m = if has_access i then access_tile i m else alu_tile i m
+
+-- What the base tile costs of a word that stands at an address, by what it is decoded as; None is an illegal word.
+abbrev pub base_price : Option Instr → ℕ → Map → ℕ
+base_price None at m = sum_by item_cost (flows_of illegal_items m)
+base_price (Some i) at m = if is_flow i then sum_by item_cost (flow_tile i at m) else sum_by cost_of (straight_tile i m)
+
+-- The word has a base tile under the map: it is legal or no instruction, and the tile of sc takes ebx.
+abbrev pub HasBaseTile : Option Instr → Map → Type 0
+HasBaseTile None m = Unit {0}
+HasBaseTile (Some i) m = IsLegal i × LeavesEbx i m
+
+-- Each word of a block, decoded, has one under every map, but the last may have one under the exit map alone.
+pub record HaveBaseTiles (decoded : List (Option Instr)) (exit : Map) : Type 0 where
+  pub before : (k : ℕ) (m : Map) → k + 1 < length decoded → HasBaseTile (slice_index_or decoded k None) m
+  pub at_end : (k : ℕ) → k + 1 ≡ length decoded → HasBaseTile (slice_index_or decoded k None) exit
+
+-- every base tile costs less than 1024
+abbrev pub BasePricesAreLow : Type 0
+BasePricesAreLow = (word : Option Instr) (at : ℕ) (m : Map) → HasBaseTile word m → base_price word at m < 1024

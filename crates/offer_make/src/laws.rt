@@ -1,0 +1,20 @@
+//! What holds of prices. Each law is the contract of a function that does nothing of its own.
+
+ghost use Rattle.offer_make.specs.Examples.{PricesCompute};
+ghost use Rattle.offer_make.specs.Prices.{BasePricesAreLow};
+
+use base_flow::flow_tiles_are_marked;
+
+/// Every base tile costs less than 1024.
+pub fn base_prices_are_low()
+    ensures { BasePricesAreLow }
+{
+    base_alu::tiles_are_tiles();
+    base_mem::tiles_are_tiles();
+    flow_tiles_are_marked();
+}
+
+/// The definitions of prices and of moves compute these examples, which were worked out by hand.
+pub fn prices_compute()
+    ensures { PricesCompute }
+{}
