@@ -9,9 +9,11 @@ use Rattle.symbolic_tiles.specs.declared.flow_op.FlowOp.TheVariants.{Plain, Jump
 use Rattle.symbolic_tiles.specs.Prelude.{is_taken, OpAt, OpsAt, EdgeCode, ItemsAt, IsJumpCode, has_mark, AreMarked, code_of}
 use Rattle.simulation.specs.Prelude.{SimulationContext, SwitchAt, EdgeAt, LeapAt}
 use Rattle.code_layout.specs.Prelude.{leap_ops, Moves, IsLaid, op_at, jump, spelled, placed, moves_ops, edge_bytes, leap_bytes, item_length, before_mark, item_bytes, items_bytes}
+use Rattle.ia_codec.specs.Reading.{condition_of_number}
 use Rattle.laid_code.specs.Prelude.{HasBytes, RunsCode, ArePlaceable, labels_of, edges_of, leaps_of, places_of, IsSwitch, AreSwitches, ItemsStand}
 use Rattle.laid_code.proofs.Decoding.{first_bytes_at, next_bytes_at, ends_low, spelling_stands, jump_leads}
-use Rattle.laid_code.proofs.Lengths.{placed_length, all_placed_length, one_length, bytes_length, mark_within}
+use Rattle.code_layout.proofs.Laying.{op_at-length as placed_length}
+use Rattle.laid_code.proofs.Lengths.{all_placed_length, one_length, bytes_length, mark_within}
 
 -- a jump of this condition is taken by its number
 pub taken : (c : Condition) (f : Flags) → is_taken (condition_number c) f ≡ condition_holds c f
@@ -44,6 +46,7 @@ code_is NotGreater = refl
 code_is Greater = refl
 
 spelt_on : (c : Condition) (rel : ℕ) → jump (condition_number c) rel ≡ Jcc c rel
+unfolding condition_of_number
 spelt_on Below rel = refl
 spelt_on NotBelow rel = refl
 spelt_on Equal rel = refl
@@ -58,6 +61,7 @@ spelt_on NotGreater rel = refl
 spelt_on Greater rel = refl
 
 spelt_always : (rel : ℕ) → jump 16 rel ≡ Jmp rel
+unfolding condition_of_number
 spelt_always rel = refl
 
 same_mark : (k : ℕ) → eqb k k ≡ true
