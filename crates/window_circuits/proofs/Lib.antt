@@ -1,4 +1,5 @@
 pub mod Putting
+pub mod Ordered
 pub mod Starting
 pub mod Running
 pub mod Following

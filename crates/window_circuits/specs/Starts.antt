@@ -16,6 +16,11 @@ AreWidths widths = (k : ℕ) → k < 64 → slice_index_or widths k 0 ≤ 32
 abbrev pub AreWithin : List ℕ → (ℕ → ℕ) → Type 0
 AreWithin widths t = (k : ℕ) → k < 64 → t k < 2 ^ slice_index_or widths k 0
 
+-- how many bits the first n places have together
+unfoldable pub bits_before : ℕ → List ℕ → ℕ
+bits_before zero widths = 0
+bits_before (suc n) widths = bits_before n widths + slice_index_or widths n 0
+
 -- The inputs by place, in their order: 0 to 5 the parameters, 6 CR, 7 to 10 the bits 0 to 6 of XER, CA, OV and SO, 11 LR,
 -- 12 CTR, 13 to 15 eax, ecx and edx, 16 to 19 CF, ZF, SF and OF, 20 to 22 the constants, 23 to 26 the loaded bytes.
 

@@ -1,10 +1,11 @@
 //! Inputs by place.
 
-ghost use Rattle.std.specs.Prelude.{◌≡◌, ◌≤◌, ℕ, Bool, IfOk, length};
+ghost use Rattle.std.specs.Prelude.{◌≡◌, ◌≤◌, ◌<◌, ◌+◌, [], ℕ, Bool, IfOk, OnOk, length, slice_index_or};
 ghost use Rattle.circuit.specs.Frame.{IsLater};
 ghost use Rattle.chosen_inputs.specs.Choices.{CanChoose};
+ghost use Rattle.chosen_inputs.specs.Inputs.{with_inputs, word_of_inputs};
 ghost use Rattle.place_circuits.specs.Places.{HoldsPlaces, PlacesOwned};
-ghost use Rattle.window_circuits.specs.Starts.{AreWidths, AreWithin};
+ghost use Rattle.window_circuits.specs.Starts.{AreWidths, AreWithin, bits_before};
 
 use chosen_inputs::input_word;
 use circuit::Gates;
@@ -17,6 +18,8 @@ pub fn input_places(gates: &mut Gates, widths: [u8; 64]) -> Result<Places, NoMem
     requires widths { AreWidths widths }
     ensures later { IsLater gates.old.nodes.keys gates.new.nodes.keys }
     ensures owned { IfOk result (λ r. PlacesOwned (length gates.new.nodes.keys) r) }
+    ensures made { IfOk result (λ r. (k : ℕ) → k < 64 → slice_index_or r.words k [] ≡ word_of_inputs (length gates.old.nodes.keys + bits_before k widths) (slice_index_or widths k 0)) }
+    ensures held { OnOk result (gates.new.nodes.keys ≡ with_inputs (bits_before 64 widths) gates.old.nodes.keys) }
     ensures chosen { IfOk result (λ r. (t : ℕ → ℕ) → AreWithin widths t → CanChoose gates.old.nodes.keys gates.new.nodes.keys (λ w. HoldsPlaces w r t)) }
 {
     let zero = gates.lit(0);

@@ -1,8 +1,11 @@
-use Rattle.std.proofs.Common.{◌≡◌, ◌<◌, ◌≤◌, length, sym, refl, ap, subst, arith, length-set, ◌∙◌}
+use Rattle.std.proofs.Common.{◌+◌, slice_index_or, ◌≡◌, ◌<◌, ◌≤◌, length, sym, refl, ap, subst, arith, length-set, ◌∙◌}
 use Rattle.circuit.specs.Literals.{word_value, word_reach_below}
 use Rattle.circuit.specs.Nodes.{AllAgree, IsInput, free_count}
 use Rattle.chosen_inputs.specs.Choices.{both, chosen_map, chosen_none_at}
+use Rattle.chosen_inputs.specs.Inputs.{with_inputs, word_of_inputs}
+use Rattle.window_circuits.specs.Starts.{bits_before}
 use Rattle.window_circuits.proofs.Putting.{put_step}
+use Rattle.window_circuits.proofs.Ordered.{inputs_begin, inputs_length, inputs_go_on}
 use Rattle.window_circuits.proofs.inputs.input_places.Goals as goal
 
 pub loop-i-init : goal.loop-i-init
@@ -13,6 +16,8 @@ loop-i-init c =
       wide = refl;
       later = record { grows = omega (arith, z); earlier = λ v h. subst (λ s. AllAgree s.nodes.keys v) e h; inputs = λ k h. subst (λ s. IsInput s.nodes.keys k) (sym e) h; opaque = ap (λ s. free_count s.nodes.keys) e };
       owned = λ k l. absurd (omega (arith, l));
+      made = λ k l. absurd (omega (arith, l));
+      held = ap (λ s. s.nodes.keys) e ∙ inputs_begin c.args.gates.now.nodes.keys c.args.widths;
       chosen = λ t h. chosen_none_at _ _ _ (ap (λ s. s.nodes.keys) e) (λ w k l. absurd (omega (arith, l)));
     }
 
@@ -31,6 +36,9 @@ loop-i-preserved c =
       wide = omega (arith, s, n);
       later = record { grows = omega (arith, p.grows, q.grows); earlier = λ v h. p.earlier v (q.earlier v h); inputs = λ k h. q.inputs k (p.inputs k h); opaque = q.opaque ∙ p.opaque };
       owned = put_step (λ k x. word_reach_below 32 x ≤ length k2) i c.loop-i.words c.in_ok-word.word inside (λ k l. let o = c.loop-i.invariant.owned k l in omega (arith, o, q.grows)) c.in_ok-word.ensures.owned;
+      made = put_step (λ k x. x ≡ word_of_inputs (length k0 + bits_before k c.args.widths) (slice_index_or c.args.widths k 0)) i c.loop-i.words c.in_ok-word.word inside c.loop-i.invariant.made
+          (c.in_ok-word.ensures.made ∙ ap (λ j. word_of_inputs j (slice_index_or c.args.widths i 0)) (ap length c.loop-i.invariant.held ∙ inputs_length (bits_before i c.args.widths) k0));
+      held = c.in_ok-word.ensures.held ∙ ap (with_inputs (slice_index_or c.args.widths i 0)) c.loop-i.invariant.held ∙ inputs_go_on i c.args.widths k0;
       chosen = λ t h. chosen_map k0 k2 _ _ (λ w q. put_step (λ k x. word_value 32 x w ≡ t k) i c.loop-i.words c.in_ok-word.word inside q.0 q.1)
           (both k0 k1 k2 _ _ p.grows q.inputs (c.loop-i.invariant.chosen t h) (c.in_ok-word.ensures.chosen (t i) (h i (omega arith))));
     }
@@ -40,3 +48,10 @@ returns-clause-chosen c = λ t h. chosen_map _ _ _ _ (λ w q. record { each = λ
 
 pub returns-clause-owned : goal.returns-clause-owned
 returns-clause-owned c = record { each = λ k l. c.loop-i.invariant.owned k (omega arith) }
+
+pub returns-clause-made : goal.returns-clause-made
+returns-clause-made c = λ k l. c.loop-i.invariant.made k (omega arith)
+
+pub returns-clause-held : goal.returns-clause-held
+returns-clause-held c = let e : c.loop-i.i ≡ 64 = omega arith in
+    subst (λ n. c.loop-i.gates.nodes.keys ≡ with_inputs (bits_before n c.args.widths) c.args.gates.now.nodes.keys) e c.loop-i.invariant.held
