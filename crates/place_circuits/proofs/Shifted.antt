@@ -2,7 +2,7 @@
 use Rattle.std.proofs.Common.{◌≡◌, ℕ, ◌+◌, ◌-◌, ◌*◌, ◌/◌, ◌%◌, ◌^◌, ◌<◌, ◌≤◌, sym, ◌∙◌, ap, arith}
 use Rattle.std.proofs.lemmas.Nat.{mod-pow-add, div-mul-add, pow_pos, pow-add}
 use Rattle.std.proofs.Math.Nat.{mul-mod_left, mul-div_cancel, mul-div-mul_right, mod-lt}
-use Rattle.word_kit.specs.Bits.{shifted_left, shifted_right}
+use Rattle.word_kit.specs.Prelude.{shifted_left, shifted_right}
 
 -- the bits below a place, moved to the left by as much as makes 32
 raised : (x low a : ℕ) → low + a ≡ 32 → x * 2 ^ a % 2 ^ 32 ≡ x % 2 ^ low * 2 ^ a

@@ -1,6 +1,6 @@
 -- Numbers of rows and ops that are written, or filled with a constant of 16 bits.
 use Rattle.std.specs.Prelude.{ℕ, ◌-◌, ◌*◌, ◌%◌, ◌^◌, ◌<◌}
-use Rattle.word_kit.specs.Words.{sign_extended}
+use Rattle.word_kit.specs.Prelude.{sign_extended}
 use Rattle.rule_body.specs.declared.line.Hole.{Hole}
 use Rattle.rule_body.specs.declared.line.Hole.TheVariants.{S, Z, H, N}
 use Rattle.place_circuits.specs.declared.constants.Number.{Number}

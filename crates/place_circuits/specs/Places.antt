@@ -1,6 +1,6 @@
 -- Words by place.
 use Rattle.std.specs.Prelude.{◌≡◌, ◌<◌, ◌≤◌, ◌==◌, if◌then◌else◌, ℕ, Bool, [], slice_index_or}
-use Rattle.circuit.specs.Literals.{word_value, word_reach_below}
+use Rattle.circuit.specs.Prelude.{word_value, word_reach_below}
 use Rattle.place_circuits.specs.declared.places.Places.{Places}
 
 -- the words of the places mean these numbers under an assignment

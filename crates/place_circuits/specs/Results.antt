@@ -1,6 +1,6 @@
 -- Where the results of ops go.
 use Rattle.std.specs.Prelude.{◌<◌, ◌+◌, ◌==◌, if◌then◌else◌, ℕ}
-use Rattle.word_kit.specs.Bits.{byte_of, joined}
+use Rattle.word_kit.specs.Prelude.{byte_of, joined}
 use Rattle.place_circuits.specs.Places.{with_place}
 use Rattle.place_circuits.specs.Sources.{IsWidth, AreBytes, IsAddress}
 use Rattle.place_circuits.specs.declared.results.Results.{Results}

@@ -1,7 +1,6 @@
 -- What rows and ops read of places.
 use Rattle.std.specs.Prelude.{◌⊎◌, ◌≡◌, ◌<◌, ◌≤◌, ◌+◌, ℕ, false, Option, Some, None}
-use Rattle.word_kit.specs.Words.{sum_word}
-use Rattle.word_kit.specs.Bits.{shifted_left}
+use Rattle.word_kit.specs.Prelude.{sum_word, shifted_left}
 use Rattle.row_runs.specs.Accesses.{little_number, cut}
 use Rattle.place_circuits.specs.Numbers.{IsNumber, number_value}
 use Rattle.place_circuits.specs.declared.sources.Address.{Address}

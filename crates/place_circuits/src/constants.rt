@@ -1,9 +1,7 @@
 //! Numbers that are written, or filled with a constant.
 
 ghost use Rattle.std.specs.Prelude.{◌≡◌, ◌%◌, ◌^◌, ◌<◌, ◌≤◌, ℕ, Bool, IfOk, length};
-ghost use Rattle.circuit.specs.Literals.{word_value, word_reach_below};
-ghost use Rattle.circuit.specs.Nodes.{AllAgree};
-ghost use Rattle.circuit.specs.Frame.{IsLater};
+ghost use Rattle.circuit.specs.Prelude.{word_value, word_reach_below, AllAgree, IsLater};
 ghost use Rattle.place_circuits.specs.Places.{HoldsPlaces, PlacesOwned};
 ghost use Rattle.place_circuits.specs.Numbers.{hole_value, IsNumber, number_value};
 

@@ -1,7 +1,7 @@
 //! Words by place.
 
 ghost use Rattle.std.specs.Prelude.{◌≡◌, ◌<◌, ◌≤◌, ℕ, Bool};
-ghost use Rattle.circuit.specs.Literals.{word_value, word_reach_below};
+ghost use Rattle.circuit.specs.Prelude.{word_value, word_reach_below};
 ghost use Rattle.place_circuits.specs.Places.{HoldsPlaces, PlacesOwned, with_place};
 
 use circuit::Lit;

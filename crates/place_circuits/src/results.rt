@@ -1,7 +1,7 @@
 //! Where the results of ops go.
 
 ghost use Rattle.std.specs.Prelude.{◌≡◌, ◌<◌, ◌≤◌, ℕ, Bool, length};
-ghost use Rattle.circuit.specs.Literals.{word_value, word_reach_below};
+ghost use Rattle.circuit.specs.Prelude.{word_value, word_reach_below};
 ghost use Rattle.place_circuits.specs.Places.{HoldsPlaces, PlacesOwned};
 ghost use Rattle.place_circuits.specs.Sources.{AreBytes};
 ghost use Rattle.place_circuits.specs.Results.{AreResults, with_lowest, with_bytes, put_values};

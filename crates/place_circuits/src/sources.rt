@@ -1,9 +1,7 @@
 //! What rows and ops read.
 
 ghost use Rattle.std.specs.Prelude.{◌≡◌, ◌<◌, ◌≤◌, ◌+◌, ℕ, Bool, IfOk, length};
-ghost use Rattle.circuit.specs.Literals.{word_value, word_reach_below};
-ghost use Rattle.circuit.specs.Nodes.{AllAgree};
-ghost use Rattle.circuit.specs.Frame.{IsLater};
+ghost use Rattle.circuit.specs.Prelude.{word_value, word_reach_below, AllAgree, IsLater};
 ghost use Rattle.row_runs.specs.Accesses.{little_number, cut};
 ghost use Rattle.place_circuits.specs.Places.{HoldsPlaces, PlacesOwned};
 ghost use Rattle.place_circuits.specs.Sources.{IsIndex, IsAddress, AreBytes, IsSource, indexed, address_value, source_value};

@@ -1,15 +1,8 @@
 -- Labels bound the walks.
 use Rattle.std.proofs.Common.{◌≡◌, ℕ, ◌+◌, ◌≤◌, List, [], ◌∷◌, refl, sym, subst, ap, ◌∙◌, arith, Bool, cond, get_or, eq-eqb}
 use Rattle.std.specs.List.{Contains}
-use Rattle.ppc_isa.specs.declared.map.Map.{Map}
-use Rattle.plan_form.specs.declared.problem.Problem.{Problem}
-use Rattle.plan_form.specs.declared.problem.Step.{Step}
-use Rattle.plan_form.specs.declared.problem.Step.TheVariants.{Go, Lay}
-use Rattle.plan_form.specs.declared.problem.Offer.{Offer}
-use Rattle.plan_form.specs.Maps.{IsMapOver}
-use Rattle.plan_form.specs.Full.{IsFullOver}
-use Rattle.plan_form.specs.Plans.{Node, Leads, IsWalk, IsValidPlan, entry_node, last}
-use Rattle.plan_form.specs.Labels.{IsAt, label_at, IsObeyed, Certifies}
+use Rattle.machines.specs.Prelude.{Map}
+use Rattle.plan_form.specs.Prelude.{Problem, Step, Go, Lay, Offer, IsMapOver, IsFullOver, Node, Leads, IsWalk, IsValidPlan, entry_node, last, IsAt, label_at, IsObeyed, Certifies}
 
 -- a map that the list holds stands at an index
 pub at : (q : Problem) (m : Map) → Contains q.maps.items m → (i : ℕ) × IsAt q m i

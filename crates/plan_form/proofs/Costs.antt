@@ -1,13 +1,9 @@
 -- A plan followed from its start.
 use Rattle.std.proofs.Common.{◌≡◌, inl, inr, ℕ, ◌+◌, ◌*◌, ◌<◌, ◌≤◌, List, [], ◌∷◌, length, get_or, drop, refl, sym, subst, ap, ◌∙◌, arith, add_assoc}
 use Rattle.std.proofs.lemmas.List.{at_drop_more, at_drop_all}
-use Rattle.ppc_isa.specs.declared.map.Map.{Map}
-use Rattle.plan_form.specs.declared.problem.Problem.{Problem}
-use Rattle.plan_form.specs.declared.problem.Step.{Step}
-use Rattle.plan_form.specs.declared.problem.Step.TheVariants.{Go, Lay}
-use Rattle.plan_form.specs.Full.{IsFullOver}
-use Rattle.reg_map.specs.Moves.{moved_gpr}
-use Rattle.plan_form.specs.Plans.{Node, Leads, Leaves, IsWalk, IsValidPlan, exit_node, entry_node, last}
+use Rattle.machines.specs.Prelude.{Map}
+use Rattle.plan_form.specs.Prelude.{Problem, Step, Go, Lay, IsFullOver, Node, Leads, Leaves, IsWalk, IsValidPlan, exit_node, entry_node, last}
+use Rattle.reg_map.specs.Prelude.{moved_gpr}
 use Rattle.plan_form.proofs.Bounds.{leads-once}
 
 pub node-same : (p p' : ℕ) (m m' : Map) → p ≡ p' → m ≡ m' → ◌≡◌ {A = Node} (record { place = p; map = m }) (record { place = p'; map = m' })

@@ -2,10 +2,8 @@
 use Rattle.std.proofs.Common.{inl, inr, ℕ, zero, suc, ◌<◌, ◌≤◌, ◌==◌, not, List, length, get_or, Option, Some, None, arith}
 use Rattle.std.proofs.lemmas.Bool.{cases_lt}
 use Rattle.std.proofs.lemmas.List.Sums.{prefix_len-le-length}
-use Rattle.ppc_isa.specs.declared.map.Map.{Map}
-use Rattle.plan_form.specs.declared.problem.Problem.{Problem}
-use Rattle.plan_form.specs.Maps.{content_number, map_number}
-use Rattle.plan_form.specs.Full.{IsFullOver}
+use Rattle.machines.specs.Prelude.{Map}
+use Rattle.plan_form.specs.Prelude.{Problem, content_number, map_number, IsFullOver}
 
 content-few : (candidates : List ℕ) → length candidates ≤ 6 → (x : Option ℕ) → content_number candidates x ≤ 7
 content-few candidates few None = omega arith

@@ -2,18 +2,9 @@
 use Rattle.std.proofs.Common.{◌≡◌, ◌⊎◌, inl, inr, ℕ, ◌+◌, ◌<◌, List, length, get_or, Option, Some, None, MatchOption, sym, subst, ap, ◌∙◌, arith}
 use Rattle.std.proofs.lemmas.List.{get_or_default}
 use Rattle.std.proofs.lemmas.Bool.{cases_lt}
-use Rattle.plan_form.specs.declared.problem.Problem.{Problem}
-use Rattle.plan_form.specs.declared.problem.Offer.{Offer}
-use Rattle.plan_form.specs.declared.problem.MovePrice.{MovePrice}
-use Rattle.plan_form.specs.declared.problem.Step.{Step}
-use Rattle.plan_form.specs.declared.problem.Step.TheVariants.{Go, Lay}
-use Rattle.plan_form.specs.declared.check.Fault.{Fault}
-use Rattle.plan_form.specs.Full.{IsFullOver}
-use Rattle.reg_map.specs.Moves.{moved}
-use Rattle.plan_form.specs.Plans.{Node, Leads}
-use Rattle.plan_form.specs.Labels.{label_at, IsObeyed}
+use Rattle.plan_form.specs.Prelude.{Problem, Offer, MovePrice, Step, Go, Lay, Fault, IsFullOver, Node, Leads, label_at, IsObeyed, IsPassed, IsFaultOf, IsEarlier, IsSound, IsFound, IsMoveFault, IsOfferFault, IsFirstFault}
+use Rattle.reg_map.specs.Prelude.{moved}
 use Rattle.plan_form.proofs.Indexes.{below-split, map-once}
-use Rattle.plan_form.specs.Faults.{IsPassed, IsFaultOf, IsEarlier, IsSound, IsFound, IsMoveFault, IsOfferFault, IsFirstFault}
 
 -- the first n moves are covered by what is found
 abbrev pub MovesFound : Problem → List (List ℕ) → ℕ → Option Fault → Type 0

@@ -2,11 +2,8 @@
 use Rattle.std.proofs.Common.{◌≡◌, ◌⊎◌, inl, inr, ℕ, ◌+◌, ◌<◌, ◌≤◌, List, length, ap, ◌∙◌, arith}
 use Rattle.std.proofs.lemmas.List.{get_or_default}
 use Rattle.std.proofs.lemmas.Bool.{cases_lt}
-use Rattle.ppc_isa.specs.declared.map.Map.{Map}
-use Rattle.plan_form.specs.declared.problem.Problem.{Problem}
-use Rattle.plan_form.specs.Maps.{map_number}
-use Rattle.plan_form.specs.Full.{IsFullOver}
-use Rattle.plan_form.specs.Labels.{IsAt, map_at}
+use Rattle.machines.specs.Prelude.{Map}
+use Rattle.plan_form.specs.Prelude.{Problem, map_number, IsFullOver, IsAt, map_at}
 
 pub below-split : (k n : ℕ) → k < n + 1 → (k < n) ⊎ (k ≡ n)
 below-split k n h = elim (cases_lt k n) [ inl low ↦ inl low | inr high ↦ inr (omega arith) ]

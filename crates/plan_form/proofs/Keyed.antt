@@ -1,11 +1,7 @@
 -- Keys tell maps apart.
 use Rattle.std.proofs.Common.{◌≡◌, ◌≢◌, ◌⊎◌, inl, inr, ℕ, ◌+◌, ◌*◌, ◌<◌, List, length, get_or, set, Option, Some, None, refl, sym, subst, ap, ◌∙◌, arith, get_or-set_same, get_or-set_other, length-set}
-use Rattle.ppc_isa.specs.declared.map.Map.{Map}
-use Rattle.ppc_isa.specs.Map.{IsMap, IsHeld}
-use Rattle.plan_form.specs.declared.problem.Problem.{Problem}
-use Rattle.plan_form.specs.Full.{IsFullOver}
-use Rattle.plan_form.specs.Labels.{IsAt, map_at}
-use Rattle.plan_form.specs.Keys.{content_key, key, IsIndex}
+use Rattle.machines.specs.Prelude.{Map, IsMap, IsHeld}
+use Rattle.plan_form.specs.Prelude.{Problem, IsFullOver, IsAt, map_at, content_key, key, IsIndex}
 use Rattle.plan_form.proofs.Indexes.{below-split, map_at-is, map_at-at, map-once}
 
 key-small : (x : Option ℕ) → IsHeld x → content_key x < 33

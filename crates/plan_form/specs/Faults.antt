@@ -7,7 +7,7 @@ use Rattle.plan_form.specs.declared.problem.BadLabel.{BadLabel}
 use Rattle.plan_form.specs.declared.problem.Step.{Step}
 use Rattle.plan_form.specs.declared.problem.Step.TheVariants.{Go, Lay}
 use Rattle.plan_form.specs.declared.check.Fault.{Fault}
-use Rattle.reg_map.specs.Moves.{moved}
+use Rattle.reg_map.specs.Prelude.{moved}
 use Rattle.plan_form.specs.Plans.{Node, Leads, IsValidPlan, order, last}
 use Rattle.plan_form.specs.Labels.{IsAt, label_at, IsObeyed}
 

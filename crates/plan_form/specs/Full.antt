@@ -1,7 +1,7 @@
 -- Full problems: those that have all maps over some GPRs and all moves between these, and a base tile for each word.
 use Rattle.std.specs.Prelude.{◌≡◌, ◌⊎◌, ℕ, ◌+◌, ◌^◌, ◌<◌, ◌≤◌, ◌↔◌, List, length, All, AllPairs, Contains}
-use Rattle.ppc_isa.specs.declared.map.Map.{Map}
-use Rattle.reg_map.specs.Moves.{moved, moved_gpr, IsPossible}
+use Rattle.machines.specs.Prelude.{Map}
+use Rattle.reg_map.specs.Prelude.{moved, moved_gpr, IsPossible}
 use Rattle.plan_form.specs.declared.problem.Problem.{Problem}
 use Rattle.plan_form.specs.declared.problem.Tile.{Tile}
 use Rattle.plan_form.specs.declared.problem.Tile.TheVariants.{Base, Rule}

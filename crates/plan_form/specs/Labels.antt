@@ -1,6 +1,6 @@
 -- Labels of nodes, and when they certify a cost.
 use Rattle.std.specs.Prelude.{◌≡◌, ℕ, ◌+◌, ◌<◌, ◌≤◌, ◌==◌, List, [], length, map, slice_index_or, if◌then◌else◌}
-use Rattle.ppc_isa.specs.declared.map.Map.{Map}
+use Rattle.machines.specs.Prelude.{Map}
 use Rattle.plan_form.specs.declared.problem.Problem.{Problem}
 use Rattle.plan_form.specs.declared.problem.Labels.{Labels}
 use Rattle.plan_form.specs.declared.problem.Step.{Step}

@@ -1,8 +1,7 @@
 -- The maps over a list of GPRs, its candidates.
 use Rattle.std.specs.Prelude.{ℕ, ◌+◌, ◌*◌, ◌==◌, Option, Some, None, List, Contains}
 use Rattle.std.specs.List.{position_or_len}
-use Rattle.ppc_isa.specs.declared.map.Map.{Map}
-use Rattle.ppc_isa.specs.Map.{IsMap}
+use Rattle.machines.specs.Prelude.{Map, IsMap}
 
 -- a slot is empty or holds one of these GPRs
 abbrev pub IsContentOf : List ℕ → Option ℕ → Type 0

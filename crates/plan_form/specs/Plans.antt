@@ -1,13 +1,13 @@
 -- The plans of a problem, their costs, and the labels that certify a plan.
 use Rattle.std.specs.Prelude.{◌≡◌, ◌⊎◌, ℕ, suc, ◌+◌, ◌-◌, ◌*◌, ◌<◌, ◌==◌, List, [], ◌∷◌, length, Contains, Option, Some, None, Bool, false}
 use Rattle.std.specs.List.{position_or_len}
-use Rattle.ppc_isa.specs.declared.map.Map.{Map}
+use Rattle.machines.specs.Prelude.{Map}
 use Rattle.reg_map.specs.declared.moves.Move.TheVariants.{Drop, Take}
 use Rattle.plan_form.specs.declared.problem.Problem.{Problem}
 use Rattle.plan_form.specs.declared.problem.Step.{Step}
 use Rattle.plan_form.specs.declared.problem.Step.TheVariants.{Go, Lay}
 use Rattle.plan_form.specs.declared.problem.Tile.TheVariants.{Base, Rule}
-use Rattle.reg_map.specs.Moves.{moved}
+use Rattle.reg_map.specs.Prelude.{moved}
 
 -- a place with a map
 pub record Node : Type 0 where

@@ -1,7 +1,7 @@
 //! The index of a map, by a table.
 
 ghost use Rattle.std.specs.Prelude.{◌≡◌, ◌<◌, Contains};
-ghost use Rattle.ppc_isa.specs.Map.{IsMap, IsHeld};
+ghost use Rattle.machines.specs.Prelude.{IsMap, IsHeld};
 ghost use Rattle.plan_form.specs.Full.{IsFull};
 ghost use Rattle.plan_form.specs.Labels.{IsAt};
 ghost use Rattle.plan_form.specs.Keys.{key as key_of, content_key, IsIndex};

@@ -1,7 +1,7 @@
 //! Maps and moves compared, and the map behind a move.
 
 ghost use Rattle.std.specs.Prelude.{◌≡◌, ◌↔◌, IsTrue};
-ghost use Rattle.reg_map.specs.Moves.{moved, with_content};
+ghost use Rattle.reg_map.specs.Prelude.{moved, with_content};
 
 use ppc_isa::Map;
 use reg_map::Move;

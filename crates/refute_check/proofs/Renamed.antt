@@ -3,8 +3,7 @@ use Rattle.std.proofs.Common.{◌≡◌, ℕ, ◌<◌, List, [], ◌++◌, ℤ, 
 use Rattle.std.specs.Option.{MatchOption}
 use Rattle.std.proofs.lemmas.List.{map-append, take-map, length-map}
 use Rattle.std.proofs.Math.ListN.{get_or-map}
-use Rattle.watched_literals.specs.Propagation.{Follows}
-use Rattle.watched_literals.specs.Numbers.{AreNames, behind}
+use Rattle.watched_literals.specs.Prelude.{Follows, AreNames, behind}
 use Rattle.watched_literals.proofs.Numbers.{behind-keeps, behind-apart}
 use Rattle.watched_literals.proofs.Renaming.{follows-numbered, follows-from}
 use Rattle.refute_check.specs.Refutations.{StepFollows, StepsFollow, IsFirstBad}

@@ -1,8 +1,8 @@
 //! The check of a refutation.
 ghost use Rattle.std.specs.Prelude.{◌≡◌, ◌↔◌, ◌++◌, [], IfOk, IfErr, IsTrue, MatchOption};
 ghost use Rattle.std.specs.List.{All};
-ghost use Rattle.word_kit.specs.Formulas.{IsFormula, AreClauses};
-ghost use Rattle.watched_literals.specs.Literals.{IsWithin};
+ghost use Rattle.word_kit.specs.Prelude.{IsFormula, AreClauses};
+ghost use Rattle.watched_literals.specs.Prelude.{IsWithin};
 ghost use Rattle.refute_check.specs.Refutations.{StepsFollow, IsFirstBad, EndsEmpty, IsRefutation, IsCause};
 
 use crate::CheckFault;

@@ -1,7 +1,7 @@
 -- What an op does where it reads what is shown.
 use Rattle.std.proofs.Common.{◌≡◌, ℕ, Bool, refl}
-use Rattle.circuit.specs.Literals.{lit_truth, word_value}
-use Rattle.ia_codec.specs.Effect.{HostValues, Flags}
+use Rattle.circuit.specs.Prelude.{lit_truth, word_value}
+use Rattle.ia_codec.specs.Prelude.{HostValues, Flags}
 use Rattle.row_runs.specs.Bodies.{Pick, BodyRun}
 use Rattle.row_circuits.specs.Choices.{ShowsPick}
 use Rattle.row_circuits.specs.Bodies.{ShowsBody}

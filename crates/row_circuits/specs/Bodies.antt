@@ -1,9 +1,7 @@
 -- Lines of a body over places: the host's place 15 is edx.
 use Rattle.std.specs.Prelude.{◌≡◌, ◌≤◌, ℕ, Bool, Option, Some, None}
-use Rattle.circuit.specs.Literals.{lit_truth, lit_reach}
-use Rattle.ia_codec.specs.Spelling.{IsInProfile}
-use Rattle.ia_codec.specs.Effect.{HostValues}
-use Rattle.ia_codec.specs.Rows.{host_row}
+use Rattle.circuit.specs.Prelude.{lit_truth, lit_reach}
+use Rattle.ia_codec.specs.Prelude.{IsInProfile, HostValues, host_row}
 use Rattle.row_runs.specs.Bodies.{Line, Bytes, BodyRun, Operand as Read, Own as OwnRead, Loaded as LoadedRead}
 use Rattle.access_circuits.specs.Lists.{AreAccesses, AccessesOwned}
 use Rattle.place_circuits.specs.Places.{HoldsPlaces, PlacesOwned}

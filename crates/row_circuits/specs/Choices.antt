@@ -1,7 +1,7 @@
 -- What the processor chooses for an op, over gates.
 use Rattle.std.specs.Prelude.{◌≡◌, ◌≤◌, ◌&&◌, if◌then◌else◌, ℕ, Bool}
-use Rattle.circuit.specs.Literals.{lit_truth, lit_reach, word_value, word_reach_below}
-use Rattle.ia_codec.specs.Effect.{Flags, HostValues}
+use Rattle.circuit.specs.Prelude.{lit_truth, lit_reach, word_value, word_reach_below}
+use Rattle.ia_codec.specs.Prelude.{Flags, HostValues}
 use Rattle.row_runs.specs.Bodies.{Pick}
 use Rattle.row_circuits.specs.declared.choices.Leaves.{Leaves}
 use Rattle.row_circuits.specs.declared.choices.Choice.{Choice}

@@ -1,6 +1,6 @@
 -- Rows of a window over places. The guest's places are six general registers, CR, XER, LR and CTR, and constants.
 use Rattle.std.specs.Prelude.{◌≡◌, ◌<◌, ◌≤◌, ℕ, Bool, Option, Some, None}
-use Rattle.circuit.specs.Literals.{lit_truth, lit_reach}
+use Rattle.circuit.specs.Prelude.{lit_truth, lit_reach}
 use Rattle.ppc_isa.specs.Legal.{IsLegal}
 use Rattle.ppc_isa.specs.Effect.{GuestValues, Effect}
 use Rattle.row_runs.specs.Windows.{Row, WindowRun}

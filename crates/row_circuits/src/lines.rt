@@ -1,10 +1,8 @@
 //! Lines of a body.
 
 ghost use Rattle.std.specs.Prelude.{◌≡◌, ◌≤◌, ◌<◌, ◌^◌, ◌++◌, List, ℕ, Bool, false, IfOk, OnOk, length};
-ghost use Rattle.circuit.specs.Literals.{lit_truth, lit_reach, word_value, word_reach_below};
-ghost use Rattle.circuit.specs.Nodes.{AllAgree, free_count};
-ghost use Rattle.circuit.specs.Frame.{IsLater, MayUntie};
-ghost use Rattle.ia_codec.specs.Spelling.{IsInProfile};
+ghost use Rattle.circuit.specs.Prelude.{lit_truth, lit_reach, word_value, word_reach_below, AllAgree, free_count, IsLater, MayUntie};
+ghost use Rattle.ia_codec.specs.Prelude.{IsInProfile};
 ghost use Rattle.ia_alu.specs.Values.{is_product};
 ghost use Rattle.chosen_inputs.specs.Choices.{CanChoose};
 ghost use Rattle.row_runs.specs.Accesses.{Accessed, always, little_number};

@@ -1,12 +1,10 @@
 //! Rows of a window.
 
 ghost use Rattle.std.specs.Prelude.{◌≡◌, ◌≤◌, ◌<◌, ◌++◌, List, ℕ, Bool, false, IfOk, OnOk, length};
-ghost use Rattle.circuit.specs.Literals.{lit_truth, lit_reach, word_value, word_reach_below};
-ghost use Rattle.circuit.specs.Nodes.{AllAgree, free_count};
-ghost use Rattle.circuit.specs.Frame.{IsLater, MayUntie};
+ghost use Rattle.circuit.specs.Prelude.{lit_truth, lit_reach, word_value, word_reach_below, AllAgree, free_count, IsLater, MayUntie};
 ghost use Rattle.ppc_isa.specs.Effect.{Effect as Outcome};
 ghost use Rattle.ppc_isa.specs.Rows.{guest_row};
-ghost use Rattle.ppc_parts.specs.Meanings.{IsOwned, values_of, EffectOwned, effect_of};
+ghost use Rattle.ppc_parts.specs.Prelude.{IsOwned, values_of, EffectOwned, effect_of};
 ghost use Rattle.ppc_alu.specs.RowTerms.{is_product_row};
 ghost use Rattle.row_runs.specs.Accesses.{Accessed, always};
 ghost use Rattle.row_runs.specs.Windows.{WindowRun, with_loaded, row_effect as run_effect, row_accesses, guest_step};

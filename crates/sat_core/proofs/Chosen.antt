@@ -6,14 +6,11 @@ use Rattle.std.proofs.lemmas.List.{take_all}
 use Rattle.std.specs.List.{Contains}
 use Rattle.std.proofs.lemmas.List.Elements.{Contains-append_left, Contains-push, Contains-push_cases}
 use Rattle.std.proofs.Math.IntN.{neg_ℤ-neg_ℤ}
-use Rattle.word_kit.specs.Formulas.{IsLiteral}
-use Rattle.watched_literals.specs.Literals.{IsWithin}
-use Rattle.watched_literals.specs.Propagators.{Spreads}
-use Rattle.watched_literals.specs.Propagation.{IsMadeTrue, HasConflict, without}
+use Rattle.word_kit.specs.Prelude.{IsLiteral}
+use Rattle.watched_literals.specs.Prelude.{IsWithin, Spreads, IsMadeTrue, HasConflict, without, AreMadeTrue, IsConsistent, Extends}
 use Rattle.watched_literals.specs.Propagation.IsMadeTrue.{opposite}
-use Rattle.watched_literals.specs.Trails.{AreMadeTrue, IsConsistent, Extends}
 use Rattle.watched_literals.proofs.Trails.{Contains-cons, Contains-nil, made-more, closed, no-conflict, consistent-push, extends-on, take-item}
-use Rattle.sat_core.specs.Decisions.{IsClosedUnder, IsGained, IsAssigned, IsLiteralOf, IsVariable, Leads}
+use Rattle.sat_core.specs.Prelude.{IsClosedUnder, IsGained, IsAssigned, IsLiteralOf, IsVariable, Leads}
 use Rattle.sat_core.proofs.Without.{AreWithin, from-without, conflict-within}
 
 extends-same : (trail : List ℤ) → Extends trail trail

@@ -2,17 +2,16 @@
 use Rattle.std.proofs.Common.{◌≡◌, ◌⊎◌, inl, inr, ℕ, ◌<◌, ◌≤◌, List, [], ◌∷◌, ◌++◌, ℤ, neg_ℤ, length, take, get_or, refl, sym, subst, ap, ◌∙◌, arith, length-append}
 use Rattle.std.proofs.lemmas.Bool.{cases_lt}
 use Rattle.std.specs.List.{All, Contains}
-use Rattle.word_kit.specs.Formulas.{IsLiteral, AreClauses}
+use Rattle.word_kit.specs.Prelude.{IsLiteral, AreClauses}
 use Rattle.std.proofs.lemmas.List.Elements.{Contains-get_or, Contains-append_right, All-push}
 use Rattle.std.proofs.lemmas.List.{take-append-le}
 use Rattle.std.proofs.Math.ListN.{get_or-append}
 use Rattle.std.proofs.Math.IntN.{neg_ℤ-neg_ℤ}
 use Rattle.std.proofs.Math.Seq.{get_or-append_seam, take-append_seam}
-use Rattle.watched_literals.specs.Propagation.{HasConflict, Follows, without}
+use Rattle.watched_literals.specs.Prelude.{HasConflict, Follows, without}
 use Rattle.watched_literals.specs.Propagation.IsMadeTrue.{opposite, unit}
 use Rattle.refute_check.specs.Refutations.{StepsFollow}
-use Rattle.sat_core.specs.Lessons.{IsLesson, AreLessons, AreSame, AreDifferent}
-use Rattle.sat_core.specs.Verdicts.{AreLearned, IsRefuted}
+use Rattle.sat_core.specs.Prelude.{IsLesson, AreLessons, AreSame, AreDifferent, AreLearned, IsRefuted}
 use Rattle.sat_core.proofs.Without.{to-without}
 
 pub learned-start : (formula : List (List ℤ)) → AreLearned formula []

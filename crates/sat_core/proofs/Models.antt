@@ -6,12 +6,11 @@ use Rattle.std.proofs.lemmas.Bool.{cases_lt}
 use Rattle.std.specs.List.{All, Any, Contains, list_any}
 use Rattle.std.specs.Ordering.{int_eq}
 use Rattle.std.proofs.lemmas.List.Elements.{All-weaker, All-contains, All-contains_itself, Contains-append_left}
-use Rattle.word_kit.specs.Formulas.{IsLiteral, IsFormula, AreClauses, Satisfies, literal_truth, variable}
+use Rattle.word_kit.specs.Prelude.{IsLiteral, IsFormula, AreClauses, Satisfies, literal_truth, variable}
 use Rattle.word_kit.specs.declared.formulas.Formula.{Formula}
-use Rattle.watched_literals.specs.Trails.{IsConsistent, IsSettled, AllSettled}
+use Rattle.watched_literals.specs.Prelude.{IsConsistent, IsSettled, AllSettled}
 use Rattle.watched_literals.proofs.Trails.{lists, tested}
-use Rattle.sat_core.specs.Decisions.{IsClosedUnder, IsVariable, IsAssigned, AreRead}
-use Rattle.sat_core.specs.Verdicts.{IsModel, value_of}
+use Rattle.sat_core.specs.Prelude.{IsClosedUnder, IsVariable, IsAssigned, AreRead, IsModel, value_of}
 
 -- a literal of the trail is true
 truth-on : (trail : List ℤ) (last : ℕ) (values : List Bool) (l : ℤ) → IsConsistent trail → AreRead trail last values → IsLiteral l → variable l ≤ last

@@ -5,14 +5,10 @@ use Rattle.std.proofs.lemmas.Bool.{false≢true}
 use Rattle.std.specs.List.{All}
 use Rattle.std.proofs.Math.IntN.{neg_ℤ-neg_ℤ}
 use Rattle.watched_literals.proofs.Trails.{neg-literal, Contains-nil}
-use Rattle.watched_literals.specs.Literals.{code, IsWithin}
-use Rattle.watched_literals.specs.Propagators.{IsReady, IsAbove}
-use Rattle.word_kit.specs.Formulas.{IsFormula, AreClauses}
-use Rattle.sat_core.specs.Decisions.{IsClosedUnder, IsGained, IsLiteralOf, IsVariable, Leads}
-use Rattle.sat_core.specs.Lessons.{IsLesson}
-use Rattle.sat_core.specs.Searching.{known, room_for, IsSearching, IsRooted, IsConflict, Keeps, Reaches, Restarts, IsTaught}
+use Rattle.watched_literals.specs.Prelude.{code, IsWithin, IsReady, IsAbove}
+use Rattle.word_kit.specs.Prelude.{IsFormula, AreClauses}
+use Rattle.sat_core.specs.Prelude.{IsClosedUnder, IsGained, IsLiteralOf, IsVariable, Leads, IsLesson, known, room_for, IsSearching, IsRooted, IsConflict, Keeps, Reaches, Restarts, IsTaught, Search}
 use Rattle.sat_core.proofs.Turns.{rooted-above, rooted-complete, rooted-closed, root-front}
-use Rattle.sat_core.specs.declared.search.Search.{Search}
 use Rattle.sat_core.proofs.Chosen.{leads-start, leads-on, leads-weaker, leads-stopped, literal-split, literals-all, variable-split, variables-all}
 
 abbrev room : Search → ℕ

@@ -6,10 +6,9 @@ use Rattle.std.specs.Bool.{Decides}
 use Rattle.std.proofs.lemmas.Bool.{false≢true}
 use Rattle.std.proofs.lemmas.List.Elements.{Contains-push_cases}
 use Rattle.std.proofs.Math.Seq.{take-length}
-use Rattle.watched_literals.specs.Propagation.{HasConflict, IsTautology, Follows, IsTight, without}
+use Rattle.watched_literals.specs.Prelude.{HasConflict, IsTautology, Follows, IsTight, without}
 use Rattle.watched_literals.proofs.Trails.{Contains-nil, made-more, same_or_not, take-item}
-use Rattle.sat_core.specs.Decisions.{IsGained}
-use Rattle.sat_core.specs.Lessons.{IsLesson}
+use Rattle.sat_core.specs.Prelude.{IsGained, IsLesson}
 use Rattle.sat_core.proofs.Without.{AreWithin, from-without, to-without, without-within, without-more, tautology-more, conflict-within, follows-within}
 
 -- these literals were tried, and what is left follows and is news by the last one

@@ -3,18 +3,13 @@ use Rattle.std.proofs.Common.{◌≡◌, ℕ, ◌≤◌, true, false, List, [], 
 use Rattle.std.specs.List.{All}
 use Rattle.std.proofs.lemmas.List.Elements.{All-push}
 use Rattle.std.proofs.Math.Seq.{take-append_seam}
-use Rattle.word_kit.specs.Formulas.{IsLiteral, AreClauses}
-use Rattle.watched_literals.specs.Propagation.{HasConflict}
+use Rattle.word_kit.specs.Prelude.{IsLiteral, AreClauses}
+use Rattle.watched_literals.specs.Prelude.{HasConflict, IsWithin, IsOpen, IsReady, IsAbove, IsComplete, AllWatched}
 use Rattle.watched_literals.proofs.Trails.{Contains-nil}
 use Rattle.watched_literals.specs.declared.propagator.Propagator.{Propagator}
-use Rattle.watched_literals.specs.Literals.{IsWithin}
-use Rattle.watched_literals.specs.Propagators.{IsOpen, IsReady, IsAbove, IsComplete}
-use Rattle.watched_literals.specs.Watches.{AllWatched}
 use Rattle.watched_literals.proofs.Knowing.{open-of, refuted-of, known-settled}
-use Rattle.sat_core.specs.Lessons.{IsLesson}
-use Rattle.sat_core.specs.Verdicts.{AreLearned, IsRefuted}
+use Rattle.sat_core.specs.Prelude.{IsLesson, AreLearned, IsRefuted, IsClosedUnder}
 use Rattle.sat_core.proofs.Learned.{learned-more, refuted-end}
-use Rattle.sat_core.specs.Decisions.{IsClosedUnder}
 
 -- ---- the root
 

@@ -6,7 +6,7 @@ use Rattle.std.specs.Ordering.{int_eq}
 use Rattle.std.proofs.lemmas.Bool.{false≢true}
 use Rattle.std.proofs.lemmas.Bool.Decides.{Decides-int_eq}
 use Rattle.std.proofs.lemmas.List.Elements.{filter-append, All-weaker, All-contains, All-contains_itself, Contains-append_right}
-use Rattle.watched_literals.specs.Propagation.{HasConflict, IsTautology, Follows, without}
+use Rattle.watched_literals.specs.Prelude.{HasConflict, IsTautology, Follows, without}
 use Rattle.watched_literals.proofs.Trails.{Contains-nil, Contains-cons, conflict-more}
 
 abbrev pub AreWithin : List ℤ → List ℤ → Type 0

@@ -4,9 +4,7 @@ use Rattle.std.specs.List.{Contains, list_any}
 use Rattle.std.specs.Ordering.{int_eq}
 use Rattle.std.specs.declared.option.Option.{Option}
 use Rattle.std.specs.declared.option.Option.TheVariants.{None, Some}
-use Rattle.watched_literals.specs.Literals.{IsWithin}
-use Rattle.watched_literals.specs.Propagation.{IsMadeTrue, HasConflict, IsTautology, without}
-use Rattle.watched_literals.specs.Trails.{AreMadeTrue, IsConsistent, AllSettled, Extends}
+use Rattle.watched_literals.specs.Prelude.{IsWithin, IsMadeTrue, HasConflict, IsTautology, without, AreMadeTrue, IsConsistent, AllSettled, Extends}
 
 -- the trail is what the clauses make true where these literals are set to false, and no clause is false
 pub record IsClosedUnder (clauses : List (List ℤ)) (falses trail : List ℤ) : Type 0 where

@@ -1,7 +1,7 @@
 -- Clauses that are worth learning, and lists of them.
 use Rattle.std.specs.Prelude.{◌≢◌, ◌↔◌, ◌<◌, ◌++◌, ℕ, List, [], ℤ, length, take, slice_index_or}
 use Rattle.std.specs.List.{Contains}
-use Rattle.watched_literals.specs.Propagation.{Follows, IsNews, IsTight, IsTautology}
+use Rattle.watched_literals.specs.Prelude.{Follows, IsNews, IsTight, IsTautology}
 
 -- the clause follows, says something new, and has no literal that could be left out; it isn't empty and no tautology
 pub record IsLesson (clauses : List (List ℤ)) (clause : List ℤ) : Type 0 where

@@ -3,10 +3,9 @@ use Rattle.std.specs.Prelude.{◌≡◌, ◌+◌, ◌*◌, ◌++◌, ◌∷◌, 
 use Rattle.std.specs.List.{All}
 use Rattle.std.specs.declared.option.Option.{Option}
 use Rattle.std.specs.declared.option.Option.TheVariants.{None}
-use Rattle.word_kit.specs.Formulas.{IsFormula, AreClauses}
+use Rattle.word_kit.specs.Prelude.{IsFormula, AreClauses}
 use Rattle.word_kit.specs.declared.formulas.Formula.{Formula}
-use Rattle.watched_literals.specs.Literals.{IsWithin}
-use Rattle.watched_literals.specs.Propagators.{IsReady, IsAbove, IsComplete}
+use Rattle.watched_literals.specs.Prelude.{IsWithin, IsReady, IsAbove, IsComplete}
 use Rattle.sat_core.specs.Decisions.{IsClosedUnder, IsGained, Leads}
 use Rattle.sat_core.specs.Lessons.{IsLesson}
 use Rattle.sat_core.specs.Verdicts.{IsModel}

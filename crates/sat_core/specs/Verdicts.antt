@@ -1,6 +1,6 @@
 -- When a verdict may be given on a formula.
 use Rattle.std.specs.Prelude.{◌≡◌, ◌≤◌, ◌++◌, ◌∷◌, ℕ, zero, suc, Bool, false, List, [], ℤ, length, slice_index_or}
-use Rattle.word_kit.specs.Formulas.{Satisfies, AreClauses}
+use Rattle.word_kit.specs.Prelude.{Satisfies, AreClauses}
 use Rattle.word_kit.specs.declared.formulas.Formula.{Formula}
 use Rattle.refute_check.specs.Refutations.{IsRefutation}
 use Rattle.sat_core.specs.Lessons.{AreLessons, AreDifferent}

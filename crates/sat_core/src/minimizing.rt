@@ -1,9 +1,7 @@
 //! Learned clauses without the literals that they can do without.
 ghost use Rattle.std.specs.Prelude.{◌≡◌, List, ℤ, IfOk, OnOk};
 ghost use Rattle.std.specs.List.{All};
-ghost use Rattle.watched_literals.specs.Propagation.{without};
-ghost use Rattle.watched_literals.specs.Literals.{IsWithin};
-ghost use Rattle.watched_literals.specs.Propagators.{IsReady};
+ghost use Rattle.watched_literals.specs.Prelude.{without, IsWithin, IsReady};
 ghost use Rattle.sat_core.specs.Decisions.{IsGained};
 ghost use Rattle.sat_core.specs.Lessons.{IsLesson};
 

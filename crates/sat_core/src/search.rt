@@ -1,6 +1,6 @@
 //! The state of a search: literals that are assumed one after the other, with all that follows by unit propagation.
 ghost use Rattle.std.specs.Prelude.{◌≡◌, ◌<◌, ◌^◌, ◌∷◌, [], pos, IfOk};
-ghost use Rattle.word_kit.specs.Formulas.{IsFormula};
+ghost use Rattle.word_kit.specs.Prelude.{IsFormula};
 ghost use Rattle.sat_core.specs.Decisions.{IsLiteralOf, IsVariable};
 ghost use Rattle.sat_core.specs.Searching.{IsSearching, IsStart, Reaches};
 

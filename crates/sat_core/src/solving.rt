@@ -1,8 +1,8 @@
 //! The solver: conflict-driven search that restarts after each learned clause.
 ghost use Rattle.std.specs.Prelude.{◌≡◌, false, IfOk, OnOk};
 ghost use Rattle.std.specs.List.{All};
-ghost use Rattle.word_kit.specs.Formulas.{IsFormula};
-ghost use Rattle.watched_literals.specs.Literals.{IsWithin};
+ghost use Rattle.word_kit.specs.Prelude.{IsFormula};
+ghost use Rattle.watched_literals.specs.Prelude.{IsWithin};
 ghost use Rattle.sat_core.specs.Searching.{IsRooted, IsConflict, IsTaught, IsLearned, Restarts, Finds};
 ghost use Rattle.sat_core.specs.Verdicts.{IsVerdict};
 

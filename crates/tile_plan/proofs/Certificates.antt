@@ -6,21 +6,15 @@ use Rattle.std.proofs.lemmas.Bool.Decides.{nat_tests}
 use Rattle.plan_form.specs.declared.problem.Problem.{Problem}
 use Rattle.plan_form.specs.declared.problem.Step.{Step}
 use Rattle.plan_form.specs.declared.problem.Step.TheVariants.{Go, Lay}
-use Rattle.plan_form.specs.Full.{IsFullOver}
-use Rattle.plan_form.specs.Plans.{Node, Leads, IsChosen, IsAsGood, entry_node, exit_node, last}
-use Rattle.plan_form.specs.Labels.{IsAt, IsShaped, IsObeyed, Certifies, label_at}
+use Rattle.plan_form.specs.Prelude.{IsFullOver, Node, Leads, IsChosen, IsAsGood, entry_node, exit_node, last, IsAt, IsShaped, IsObeyed, Certifies, label_at, map_at}
 use Rattle.plan_form.proofs.Bounds.{at, walk-bound, label-last}
 use Rattle.plan_form.proofs.Costs.{node-same, leads-place}
-use Rattle.plan_form.specs.Labels.{map_at}
-use Rattle.tile_plan.specs.Arcs.{node_at}
-use Rattle.tile_plan.specs.Reach.{Reaches}
-use Rattle.tile_plan.specs.Forward.{AreForwardLabels, IsForwardRow}
+use Rattle.tile_plan.specs.Prelude.{node_at, Reaches, AreForwardLabels, IsForwardRow, IsNode, IsLeastCost}
 use Rattle.plan_form.proofs.Indexes.{map_at-is, map-once}
 use Rattle.tile_plan.proofs.Firsts.{walk-short}
 use Rattle.tile_plan.proofs.Reaches.{reached-plan}
 use Rattle.tile_plan.proofs.Reached.{reached-by}
 use Rattle.tile_plan.specs.Reach.Reaches.{starts, steps_on}
-use Rattle.tile_plan.specs.Solution.{IsNode, IsLeastCost}
 
 -- a good plan costs no more
 good-low : (q : Problem) (cost cost' : ℕ) (steps other : List Step) → IsAsGood q cost steps cost' other → cost ≤ cost'

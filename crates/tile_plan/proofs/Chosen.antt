@@ -3,9 +3,8 @@ use Rattle.std.proofs.Common.{◌≡◌, inl, inr, ℕ, List, length, arith}
 use Rattle.std.proofs.lemmas.Bool.{cases_lt}
 use Rattle.plan_form.specs.declared.problem.Problem.{Problem}
 use Rattle.plan_form.specs.declared.problem.Step.{Step}
-use Rattle.plan_form.specs.Full.{IsFullOver}
-use Rattle.plan_form.specs.Plans.{IsValidPlan, IsChosen, IsAsGood, entry_node}
-use Rattle.tile_plan.specs.Choice.{IsFirstPlan}
+use Rattle.plan_form.specs.Prelude.{IsFullOver, IsValidPlan, IsChosen, IsAsGood, entry_node}
+use Rattle.tile_plan.specs.Prelude.{IsFirstPlan}
 use Rattle.tile_plan.proofs.Firsts.{walk-short}
 
 pub chosen-of : (q : Problem) (candidates : List ℕ) (price : ℕ → ℕ → ℕ) → IsFullOver q candidates price → (steps : List Step) → (h : IsFirstPlan q steps)

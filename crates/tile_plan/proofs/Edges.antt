@@ -9,12 +9,11 @@ use Rattle.plan_form.specs.declared.problem.Step.{Step}
 use Rattle.plan_form.specs.declared.problem.Step.TheVariants.{Go, Lay}
 use Rattle.plan_form.specs.declared.problem.Offer.{Offer}
 use Rattle.plan_form.specs.declared.problem.MovePrice.{MovePrice}
-use Rattle.reg_map.specs.Moves.{moved}
-use Rattle.plan_form.specs.Plans.{Node, Leads}
-use Rattle.tile_plan.specs.Arcs.{node_at, IsMoveArc, IsOfferArc, IsArc, AreAllArcs, IsCollected, AreFromPlace, AreSoFar, IsPushed}
+use Rattle.reg_map.specs.Prelude.{moved}
+use Rattle.plan_form.specs.Prelude.{Node, Leads}
+use Rattle.tile_plan.specs.Prelude.{node_at, IsMoveArc, IsOfferArc, IsArc, AreAllArcs, IsCollected, AreFromPlace, AreSoFar, IsPushed, Arc}
 use Rattle.plan_form.proofs.Costs.{node-same}
 use Rattle.plan_form.proofs.Indexes.{map_at-is, below-split}
-use Rattle.tile_plan.specs.declared.arcs.Arc.{Arc}
 
 module _ {X : Type 0} (at : X → ℕ) (Is : X → Arc → Type 0) (place : ℕ) (items : List X) where
   pub collect-push : (slice : List X) (n : ℕ) (arcs new : List Arc) (d : X) (arc : Arc) → slice ≡ items → n < length slice → new ≡ arcs ++ arc ∷ []

@@ -2,20 +2,14 @@
 use Rattle.std.proofs.Common.{◌≡◌, ◌⊎◌, inl, inr, ℕ, suc, ◌+◌, ◌-◌, ◌*◌, ◌/◌, ◌<◌, ◌≤◌, List, [], ◌∷◌, ◌++◌, length, get_or, refl, sym, subst, ap, ◌∙◌, arith, append_assoc}
 use Rattle.std.specs.List.{Contains}
 use Rattle.std.proofs.lemmas.List.Elements.{All-contains}
-use Rattle.plan_form.specs.Labels.{IsAt}
+use Rattle.plan_form.specs.Prelude.{IsAt, IsFullOver, Node, Leads, Leaves, IsWalk, IsValidPlan, entry_node, IsNotBehind, order, last}
 use Rattle.std.proofs.lemmas.Bool.{cases_lt}
 use Rattle.plan_form.specs.declared.problem.Problem.{Problem}
 use Rattle.plan_form.specs.declared.problem.Step.{Step}
 use Rattle.plan_form.specs.declared.problem.Step.TheVariants.{Go, Lay}
-use Rattle.plan_form.specs.Full.{IsFullOver}
-use Rattle.plan_form.specs.Plans.{Node, Leads, Leaves, IsWalk, IsValidPlan, entry_node, IsNotBehind, order, last}
 use Rattle.plan_form.proofs.Bounds.{leads-once}
 use Rattle.plan_form.proofs.Costs.{node-same, leaves-once, price-small, leads-place}
-use Rattle.tile_plan.specs.declared.table.TheConstants.{NEVER}
-use Rattle.tile_plan.specs.declared.arcs.Arc.{Arc}
-use Rattle.tile_plan.specs.Arcs.{node_at, IsArc, AreArcs}
-use Rattle.tile_plan.specs.Least.{HasWalk, IsLeast, IsTable}
-use Rattle.tile_plan.specs.Choice.{IsFirst, IsTight, IsChoice}
+use Rattle.tile_plan.specs.Prelude.{NEVER, Arc, node_at, IsArc, AreArcs, HasWalk, IsLeast, IsTable, IsFirst, IsTight, IsChoice}
 use Rattle.tile_plan.proofs.Leasts.{HasArc, has-arc, walk-on, lay-beyond, go-beyond}
 use Rattle.plan_form.proofs.Indexes.{map_at-is, below-split}
 use Rattle.std.proofs.lemmas.List.{get_or_default}

@@ -5,18 +5,11 @@ use Rattle.std.proofs.lemmas.Bool.{cases_lt, cases_eq}
 use Rattle.std.proofs.lemmas.List.{get_or_default, get_or_append_left, get_or_at, length_push}
 use Rattle.std.proofs.lemmas.List.Elements.{All-contains}
 use Rattle.plan_form.specs.declared.problem.Step.TheVariants.{Go, Lay}
-use Rattle.plan_form.specs.Full.{IsFullOver}
-use Rattle.plan_form.specs.Labels.{IsAt}
+use Rattle.plan_form.specs.Prelude.{IsFullOver, IsAt, Node, Leads, entry_node, map_at}
 use Rattle.plan_form.specs.declared.problem.Problem.{Problem}
 use Rattle.plan_form.specs.declared.problem.Step.{Step}
-use Rattle.plan_form.specs.Plans.{Node, Leads, entry_node}
-use Rattle.tile_plan.specs.declared.table.TheConstants.{NEVER}
-use Rattle.tile_plan.specs.declared.arcs.Arc.{Arc}
-use Rattle.plan_form.specs.Labels.{map_at}
-use Rattle.tile_plan.specs.Arcs.{node_at, IsArc, AreArcs}
-use Rattle.tile_plan.specs.Reach.{Reaches}
+use Rattle.tile_plan.specs.Prelude.{NEVER, Arc, node_at, IsArc, AreArcs, Reaches, AreReached, AreLower, AreObeyed, IsRelaxed, AreStartCosts, StartsFree, AreObeyedFrom, IsForwardRow, AreForward}
 use Rattle.tile_plan.specs.Reach.Reaches.{starts, steps_on}
-use Rattle.tile_plan.specs.Forward.{AreReached, AreLower, AreObeyed, IsRelaxed, AreStartCosts, StartsFree, AreObeyedFrom, IsForwardRow, AreForward}
 use Rattle.plan_form.proofs.Indexes.{map_at-at, map-once, below-split}
 use Rattle.tile_plan.proofs.Leasts.{has-arc}
 

@@ -8,13 +8,8 @@ use Rattle.plan_form.specs.declared.problem.Tile.{Tile}
 use Rattle.plan_form.specs.declared.problem.Problem.{Problem}
 use Rattle.plan_form.specs.declared.problem.Step.{Step}
 use Rattle.plan_form.specs.declared.problem.Step.TheVariants.{Go, Lay}
-use Rattle.plan_form.specs.Full.{IsFullOver}
-use Rattle.plan_form.specs.Plans.{Node, Leads, Leaves, IsWalk, exit_node, last}
-use Rattle.tile_plan.specs.declared.table.TheConstants.{NEVER}
-use Rattle.tile_plan.specs.declared.arcs.Arc.{Arc}
-use Rattle.plan_form.specs.Labels.{map_at}
-use Rattle.tile_plan.specs.Arcs.{node_at, IsArc, AreArcs}
-use Rattle.tile_plan.specs.Least.{HasWalk, IsLeast, IsRow, IsTable, IsBeyond}
+use Rattle.plan_form.specs.Prelude.{IsFullOver, Node, Leads, Leaves, IsWalk, exit_node, last, map_at}
+use Rattle.tile_plan.specs.Prelude.{NEVER, Arc, node_at, IsArc, AreArcs, HasWalk, IsLeast, IsRow, IsTable, IsBeyond}
 use Rattle.plan_form.proofs.Costs.{node-same}
 use Rattle.plan_form.proofs.Indexes.{map_at-is, map_at-at, map-once, below-split}
 

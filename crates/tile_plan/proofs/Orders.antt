@@ -6,17 +6,15 @@ use Rattle.std.proofs.lemmas.Bool.{cases_lt}
 use Rattle.std.proofs.lemmas.List.Elements.{All-contains}
 use Rattle.std.proofs.lemmas.List.{get_or_default}
 use Rattle.std.proofs.lemmas.Bool.Decides.{nat_tests}
-use Rattle.ppc_isa.specs.declared.map.Map.{Map}
+use Rattle.machines.specs.Prelude.{Map}
 use Rattle.reg_map.specs.declared.moves.Move.TheVariants.{Drop, Take}
 use Rattle.plan_form.specs.declared.problem.Problem.{Problem}
 use Rattle.plan_form.specs.declared.problem.Step.{Step}
 use Rattle.plan_form.specs.declared.problem.Step.TheVariants.{Go, Lay}
 use Rattle.plan_form.specs.declared.problem.Tile.TheVariants.{Base, Rule}
-use Rattle.reg_map.specs.Moves.{with_content}
-use Rattle.plan_form.specs.Maps.{IsMapOver}
-use Rattle.plan_form.specs.Full.{IsFullOver}
+use Rattle.reg_map.specs.Prelude.{with_content}
+use Rattle.plan_form.specs.Prelude.{IsMapOver, IsFullOver, Node, Leads, order, rank, is_alone}
 use Rattle.plan_form.proofs.Counts.{few-maps}
-use Rattle.plan_form.specs.Plans.{Node, Leads, order, rank, is_alone}
 
 -- what stands at the first place that passes, passes
 passes-first : {X : Type 0} (p : X → Bool) (d : X) (xs : List X) → p d ≡ true → p (get_or xs (prefix_len (λ x. not (p x)) xs) d) ≡ true

@@ -1,20 +1,17 @@
 -- Every node of a full problem is reached from the start, at a cost below NEVER.
 use Rattle.std.proofs.Common.{◌≡◌, inl, inr, ℕ, zero, suc, ◌+◌, ◌-◌, ◌*◌, ◌<◌, ◌≤◌, List, Option, Some, None, refl, sym, subst, ◌∙◌, arith}
 use Rattle.std.proofs.lemmas.Bool.{cases_lt}
-use Rattle.ppc_isa.specs.declared.map.Map.{Map}
+use Rattle.machines.specs.Prelude.{Map}
 use Rattle.reg_map.specs.declared.moves.Move.{Move}
 use Rattle.reg_map.specs.declared.moves.Move.TheVariants.{Drop, Take}
-use Rattle.reg_map.specs.Moves.{moved, moved_gpr, content, with_content, IsPossible}
+use Rattle.reg_map.specs.Prelude.{moved, moved_gpr, content, with_content, IsPossible}
 use Rattle.plan_form.specs.declared.problem.Problem.{Problem}
 use Rattle.plan_form.specs.declared.problem.Step.TheVariants.{Go, Lay}
 use Rattle.plan_form.specs.declared.problem.Tile.TheVariants.{Base}
-use Rattle.plan_form.specs.Maps.{IsMapOver}
-use Rattle.plan_form.specs.Full.{IsFullOver}
-use Rattle.plan_form.specs.Plans.{Node, exit_node, last}
+use Rattle.plan_form.specs.Prelude.{IsMapOver, IsFullOver, Node, exit_node, last}
 use Rattle.plan_form.proofs.Costs.{node-same}
-use Rattle.tile_plan.specs.Reach.{Reaches}
+use Rattle.tile_plan.specs.Prelude.{Reaches, IsNode}
 use Rattle.tile_plan.specs.Reach.Reaches.{starts, steps_on}
-use Rattle.tile_plan.specs.Solution.{IsNode}
 use Rattle.tile_plan.proofs.Switches.{map_of, map-sub, sub-same, sub-none, some-none, take-possible}
 
 -- the node is reached at no higher cost

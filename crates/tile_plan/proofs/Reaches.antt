@@ -1,16 +1,14 @@
 -- Whatever is reached is reached with at most six moves in a row, at no higher cost; and a full problem has a plan.
 use Rattle.std.proofs.Common.{◌≡◌, ℕ, zero, suc, ◌+◌, ◌-◌, ◌≤◌, List, [], ◌∷◌, refl, sym, subst, arith}
-use Rattle.ppc_isa.specs.declared.map.Map.{Map}
+use Rattle.machines.specs.Prelude.{Map}
 use Rattle.plan_form.specs.declared.problem.Problem.{Problem}
 use Rattle.plan_form.specs.declared.problem.Step.{Step}
 use Rattle.plan_form.specs.declared.problem.Step.TheVariants.{Go, Lay}
 use Rattle.plan_form.specs.declared.problem.Tile.TheVariants.{Base}
 use Rattle.plan_form.specs.declared.problem.Tile.{Tile}
-use Rattle.plan_form.specs.Maps.{IsMapOver}
-use Rattle.plan_form.specs.Full.{IsFullOver}
-use Rattle.plan_form.specs.Plans.{Node, Leads, IsValidPlan, exit_node, last}
+use Rattle.plan_form.specs.Prelude.{IsMapOver, IsFullOver, Node, Leads, IsValidPlan, exit_node, last}
 use Rattle.plan_form.proofs.Costs.{node-same}
-use Rattle.tile_plan.specs.Reach.{Reaches}
+use Rattle.tile_plan.specs.Prelude.{Reaches}
 use Rattle.tile_plan.specs.Reach.Reaches.{starts, steps_on}
 use Rattle.tile_plan.proofs.Switches.{Can, can-switch, switch_price, switch-same, switch-on}
 

@@ -1,18 +1,15 @@
 -- A switch from one map to another: at most three Drops and then at most three Takes, and no list of moves costs less.
 use Rattle.std.proofs.Common.{◌≡◌, ◌≢◌, ◌⊎◌, inl, inr, ℕ, zero, suc, ◌+◌, ◌<◌, ◌≤◌, Bool, true, false, cond, eqb, eq-eqb, List, [], ◌∷◌, Option, Some, None, refl, sym, subst, ap, ◌∙◌, arith, if◌then◌else◌}
 use Rattle.std.proofs.lemmas.Bool.Decides.{nat_tests}
-use Rattle.ppc_isa.specs.declared.map.Map.{Map}
+use Rattle.machines.specs.Prelude.{Map, IsMap, IsHeld}
 use Rattle.reg_map.specs.declared.moves.Move.{Move}
 use Rattle.reg_map.specs.declared.moves.Move.TheVariants.{Drop, Take}
 use Rattle.plan_form.specs.declared.problem.Problem.{Problem}
 use Rattle.plan_form.specs.declared.problem.Step.{Step}
 use Rattle.plan_form.specs.declared.problem.Step.TheVariants.{Go, Lay}
-use Rattle.ppc_isa.specs.Map.{IsMap, IsHeld, AreApart}
-use Rattle.reg_map.specs.Moves.{moved, moved_gpr, held_in, content, with_content, IsPossible}
-use Rattle.reg_map.specs.Place.{holds, slot_of}
-use Rattle.plan_form.specs.Maps.{IsMapOver, IsContentOf}
-use Rattle.plan_form.specs.Full.{IsFullOver}
-use Rattle.plan_form.specs.Plans.{Node, IsWalk, last}
+use Rattle.ppc_isa.specs.Map.{AreApart}
+use Rattle.reg_map.specs.Prelude.{moved, moved_gpr, held_in, content, with_content, IsPossible, holds, slot_of}
+use Rattle.plan_form.specs.Prelude.{IsMapOver, IsContentOf, IsFullOver, Node, IsWalk, last}
 
 unfoldable pub map_of : Option ℕ → Option ℕ → Option ℕ → Map
 map_of x y z = record { ebx = x; esi = y; edi = z }

@@ -4,9 +4,8 @@ use Rattle.plan_form.specs.declared.problem.Problem.{Problem}
 use Rattle.plan_form.specs.declared.problem.Step.TheVariants.{Go, Lay}
 use Rattle.plan_form.specs.declared.problem.Offer.{Offer}
 use Rattle.plan_form.specs.declared.problem.MovePrice.{MovePrice}
-use Rattle.reg_map.specs.Moves.{moved}
-use Rattle.plan_form.specs.Plans.{Node, Leads}
-use Rattle.plan_form.specs.Labels.{IsAt, map_at}
+use Rattle.reg_map.specs.Prelude.{moved}
+use Rattle.plan_form.specs.Prelude.{Node, Leads, IsAt, map_at}
 use Rattle.tile_plan.specs.declared.arcs.Arc.{Arc}
 
 -- the node at a place and the index of a map

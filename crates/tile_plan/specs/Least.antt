@@ -2,7 +2,7 @@
 use Rattle.std.specs.Prelude.{◌≡◌, ◌⊎◌, ℕ, ◌+◌, ◌-◌, ◌*◌, ◌/◌, ◌%◌, ◌<◌, ◌≤◌, List, [], length, slice_index_or}
 use Rattle.plan_form.specs.declared.problem.Problem.{Problem}
 use Rattle.plan_form.specs.declared.problem.Step.{Step}
-use Rattle.plan_form.specs.Plans.{Node, Leaves, IsWalk, last, exit_node}
+use Rattle.plan_form.specs.Prelude.{Node, Leaves, IsWalk, last, exit_node}
 use Rattle.tile_plan.specs.declared.table.TheConstants.{NEVER}
 use Rattle.tile_plan.specs.declared.arcs.Arc.{Arc}
 use Rattle.tile_plan.specs.Arcs.{node_at}

@@ -2,8 +2,7 @@
 use Rattle.std.specs.Prelude.{◌≡◌, ℕ, ◌≤◌, List, Contains}
 use Rattle.plan_form.specs.declared.problem.Problem.{Problem}
 use Rattle.plan_form.specs.declared.problem.Step.{Step}
-use Rattle.plan_form.specs.Plans.{Node, IsChosen, last}
-use Rattle.plan_form.specs.Labels.{IsAt, IsShaped, Certifies, label_at}
+use Rattle.plan_form.specs.Prelude.{Node, IsChosen, last, IsAt, IsShaped, Certifies, label_at}
 use Rattle.tile_plan.specs.Reach.{Reaches}
 
 -- a map of the problem at one of its places, and at the last place the exit map

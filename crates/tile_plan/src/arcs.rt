@@ -1,8 +1,7 @@
 //! The edges of a problem by place, between maps by their indexes.
 
 ghost use Rattle.std.specs.Prelude.{◌≡◌, ◌<◌, IfOk, OnOk, Contains, length, map};
-ghost use Rattle.plan_form.specs.Full.{IsFull};
-ghost use Rattle.plan_form.specs.Keys.{IsIndex};
+ghost use Rattle.plan_form.specs.Prelude.{IsFull, IsIndex};
 ghost use Rattle.tile_plan.specs.Arcs.{IsMoveArc, IsOfferArc, AreAllArcs, AreSoFar, IsPushed};
 
 use plan_form::{MovePrice, Offer, Problem, Step, index_in, map_behind};

@@ -1,8 +1,7 @@
 //! The least costs from the start.
 
 ghost use Rattle.std.specs.Prelude.{◌≡◌, ◌≤◌, ◌<◌, ◌+◌, IfOk, length, map, [], slice_index_or};
-ghost use Rattle.plan_form.specs.Full.{IsFull};
-ghost use Rattle.plan_form.specs.Labels.{IsAt, values_of};
+ghost use Rattle.plan_form.specs.Prelude.{IsFull, IsAt, values_of};
 ghost use Rattle.tile_plan.specs.Arcs.{IsArc, AreArcs, AreAllArcs};
 ghost use Rattle.tile_plan.specs.Forward.{AreReached, AreLower, AreObeyed, IsRelaxed, StartsFree, IsForwardRow, AreForward, IsStartCost, AreStartCosts, AreForwardLabels};
 

@@ -1,8 +1,7 @@
 //! The least plan with its labels.
 
 ghost use Rattle.std.specs.Prelude.{IfOk};
-ghost use Rattle.plan_form.specs.Full.{IsFull};
-ghost use Rattle.plan_form.specs.Labels.{values_of};
+ghost use Rattle.plan_form.specs.Prelude.{IsFull, values_of};
 ghost use Rattle.tile_plan.specs.Solution.{IsSolution};
 
 use crate::arcs::all_arcs;

@@ -1,8 +1,7 @@
 //! The least weights to the last node, by place, moves left and map.
 
 ghost use Rattle.std.specs.Prelude.{◌≡◌, ◌+◌, ◌-◌, ◌*◌, ◌≤◌, ◌<◌, IfOk, length, map, [], slice_index_or};
-ghost use Rattle.plan_form.specs.Full.{IsFull};
-ghost use Rattle.plan_form.specs.Plans.{last};
+ghost use Rattle.plan_form.specs.Prelude.{IsFull, last};
 ghost use Rattle.tile_plan.specs.Arcs.{IsArc, AreArcs, AreAllArcs};
 ghost use Rattle.tile_plan.specs.Least.{IsRow, IsTable, IsBeyond, IsEndWeight, AreEndWeights};
 

@@ -2,9 +2,7 @@
 
 ghost use Rattle.std.specs.Prelude.{◌≡◌, ◌↔◌, ◌+◌, ◌-◌, ◌*◌, ◌≤◌, ◌<◌, ℕ, List, IfOk, IsTrue, length, map, Contains};
 ghost use Rattle.plan_form.specs.declared.problem.Step.{Step};
-ghost use Rattle.plan_form.specs.Full.{IsFull};
-ghost use Rattle.plan_form.specs.Labels.{IsAt};
-ghost use Rattle.plan_form.specs.Plans.{last, Leaves, IsValidPlan, entry_node};
+ghost use Rattle.plan_form.specs.Prelude.{IsFull, IsAt, last, Leaves, IsValidPlan, entry_node};
 ghost use Rattle.tile_plan.specs.declared.arcs.Arc.{Arc};
 ghost use Rattle.tile_plan.specs.Arcs.{IsArc, AreArcs, AreAllArcs};
 ghost use Rattle.tile_plan.specs.Least.{IsTable};

@@ -6,16 +6,11 @@ use Rattle.std.specs.List.{All, Contains}
 use Rattle.std.proofs.lemmas.List.Elements.{All-contains, Contains-append_left, Contains-push, Contains-push_cases}
 use Rattle.std.proofs.lemmas.List.{length-set, get_or_past, get_or_append_left}
 use Rattle.std.proofs.Math.Seq.{take-append_seam, get_or-append_seam}
-use Rattle.word_kit.specs.Formulas.{IsLiteral}
-use Rattle.watched_literals.specs.Propagation.{IsMadeTrue, HasConflict, Follows}
+use Rattle.word_kit.specs.Prelude.{IsLiteral}
+use Rattle.watched_literals.specs.Prelude.{IsMadeTrue, HasConflict, Follows, AreMadeTrue, IsConsistent, IsUnit, IsFalse, AllSettled, Extends, IsDenied, Denies, Pair, code, IsWithin, IsWatch, no_pair, IsPair, IsStore, IsFree, IsTrueIn, AllWatched, AreAmong, Propagates, IsOpenAt, AreHeld, IsOpen, IsTried, Spreads}
 use Rattle.watched_literals.specs.Propagation.IsMadeTrue.{unit}
-use Rattle.watched_literals.specs.Trails.{AreMadeTrue, IsConsistent, IsUnit, IsFalse, AllSettled, Extends, IsDenied, Denies}
 use Rattle.watched_literals.proofs.Trails.{Contains-nil, Contains-take, consistent-push, extends-on, made-more, conflict-more, not-following}
 use Rattle.watched_literals.proofs.Trails.{cut-back}
-use Rattle.watched_literals.specs.declared.watches.Pair.{Pair}
-use Rattle.watched_literals.specs.Literals.{code, IsWithin}
-use Rattle.watched_literals.specs.Watches.{IsWatch, no_pair, IsPair, IsStore, IsFree, IsTrueIn, AllWatched, AreAmong, Propagates}
-use Rattle.watched_literals.specs.Propagators.{IsOpenAt, AreHeld, IsOpen, IsTried, Spreads}
 use Rattle.watched_literals.proofs.Watching.{Contains-none, row-more, row-here, row-cases, one-of, true-more, all-settled, rises-keeps, moves-same, watched-back}
 
 -- ---- how a clause stands

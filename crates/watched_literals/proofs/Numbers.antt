@@ -5,12 +5,11 @@ use Rattle.std.proofs.lemmas.List.{get_or_default, get_or_past, get_or_append_le
 use Rattle.std.proofs.Math.Seq.{get_or-append_seam}
 use Rattle.std.specs.List.{Contains}
 use Rattle.std.proofs.lemmas.List.Elements.{Contains-get_or}
-use Rattle.watched_literals.specs.Numbers.{total, name, AreNames, behind, IsNumbered, Grown}
+use Rattle.watched_literals.specs.Prelude.{total, name, AreNames, behind, IsNumbered, Grown, code, IsWithin}
 use Rattle.std.specs.List.{All, list_any}
 use lib.Signed.{lt_z}
 use Rattle.std.proofs.lemmas.Int.{ints}
-use Rattle.word_kit.specs.Formulas.{variable, IsLiteral}
-use Rattle.watched_literals.specs.Literals.{code, IsWithin}
+use Rattle.word_kit.specs.Prelude.{variable, IsLiteral}
 use Rattle.std.proofs.lemmas.List.Folds.{list_any_at}
 use Rattle.std.proofs.lemmas.Option.{get_or_from_slice_get}
 use Rattle.indexmap.specs.IndexSet.{insert_key}

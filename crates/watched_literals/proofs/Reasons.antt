@@ -3,8 +3,7 @@ use Rattle.std.proofs.Common.{◌≡◌, ◌⊎◌, inl, inr, ℕ, ◌<◌, ◌�
 use Rattle.std.proofs.lemmas.Bool.{cases_lt}
 use Rattle.std.proofs.lemmas.List.{take-append-le, take-take, take_all, length-take-le, get_or_append_left, get_or-take}
 use Rattle.std.proofs.Math.Seq.{take-append_seam, get_or-append_seam}
-use Rattle.watched_literals.specs.Trails.{IsUnit}
-use Rattle.watched_literals.specs.Literals.{Assigned, AreReasoned}
+use Rattle.watched_literals.specs.Prelude.{IsUnit, Assigned, AreReasoned}
 
 -- one literal more, with its reason
 pub reasoned-push : (clauses : List (List ℤ)) (old new : Assigned) (literal : ℤ) (reason : Option ℕ) → new.literals ≡ old.literals ++ literal ∷ []

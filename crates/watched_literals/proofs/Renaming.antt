@@ -1,7 +1,7 @@
 -- Variables numbered anew: what follows stays what follows.
 use Rattle.std.proofs.Common.{◌≡◌, ◌⊎◌, inl, inr, ℕ, zero, suc, ◌<◌, List, [], ◌∷◌, ℤ, neg_ℤ, length, get_or, map, refl, sym, subst, ap, ◌∙◌, arith}
 use Rattle.std.specs.List.{Contains}
-use Rattle.watched_literals.specs.Propagation.{IsMadeTrue, Follows}
+use Rattle.watched_literals.specs.Prelude.{IsMadeTrue, Follows}
 use Rattle.watched_literals.specs.Propagation.IsMadeTrue.{opposite, unit}
 
 cons-cases : {X : Type 0} (y : X) (ys : List X) (x : X) → Contains (y ∷ ys) x → (y ≡ x) ⊎ Contains ys x

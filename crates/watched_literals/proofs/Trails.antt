@@ -10,10 +10,9 @@ use Rattle.std.proofs.Math.IntN.{neg_ℤ-neg_ℤ}
 use Rattle.std.proofs.lemmas.List.{take_more}
 use Rattle.std.proofs.Math.Seq.{take-length, take-append_seam}
 use Rattle.indexmap.specs.IndexSet.{insert_key}
-use Rattle.word_kit.specs.Formulas.{IsLiteral, AreClauses}
-use Rattle.watched_literals.specs.Propagation.{IsMadeTrue, HasConflict, Follows}
+use Rattle.word_kit.specs.Prelude.{IsLiteral, AreClauses}
+use Rattle.watched_literals.specs.Prelude.{IsMadeTrue, HasConflict, Follows, IsConsistent, IsSettled, AllSettled, IsUnit, Leaves, Extends, IsDenied, Denies, unset, Grows}
 use Rattle.watched_literals.specs.Propagation.IsMadeTrue.{opposite, unit}
-use Rattle.watched_literals.specs.Trails.{IsConsistent, IsSettled, AllSettled, IsUnit, Leaves, Extends, IsDenied, Denies, unset, Grows}
 
 -- two numbers are the same or they aren't
 pub same_or_not : (x y : ℤ) → (x ≡ y) ⊎ (x ≢ y)

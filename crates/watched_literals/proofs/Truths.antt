@@ -8,7 +8,7 @@ use Rattle.std.proofs.lemmas.List.Elements.{All-contains, All-push, All-take, Co
 use Rattle.std.proofs.lemmas.List.{take-append-le, take-take, length-take-le, length-set, length-replicate, get_or-set_same, get_or-set_other, get_or-replicate, get_or_append_left}
 use Rattle.std.proofs.Math.Seq.{take-append_seam, get_or-append_seam}
 use Rattle.watched_literals.proofs.Trails.{same_or_not, lists}
-use Rattle.watched_literals.specs.Literals.{code, IsWithin, IsTruth}
+use Rattle.watched_literals.specs.Prelude.{code, IsWithin, IsTruth}
 
 pub code-injective : (x y : ℤ) → code x ≡ code y → x ≡ y
 code-injective (pos n) (pos m) e = let f : n ≡ m = omega (arith, e) in ap pos f

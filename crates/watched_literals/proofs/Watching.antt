@@ -6,14 +6,10 @@ use Rattle.std.proofs.lemmas.List.Elements.{All-contains, Contains-append_left, 
 use Rattle.std.proofs.lemmas.List.{take-append-le, take_more, length-set, get_or-set_same, get_or-set_other, get_or_default, get_or_read}
 use Rattle.std.proofs.Math.Seq.{take-length}
 use Rattle.std.proofs.Math.IntN.{neg_ℤ-neg_ℤ}
-use Rattle.word_kit.specs.Formulas.{AreClauses}
-use Rattle.watched_literals.specs.Propagation.{IsMadeTrue}
+use Rattle.word_kit.specs.Prelude.{AreClauses}
+use Rattle.watched_literals.specs.Prelude.{IsMadeTrue, IsUnit, IsFalse, IsSettled, AllSettled, Grows, unset, Pair, code, IsWithin, IsWatch, no_pair, IsPair, IsStore, IsFree, IsTrueIn, AllWatched, Moves, AreHandled, Rises, Fails, Rewatches, Visits}
 use Rattle.watched_literals.specs.Propagation.IsMadeTrue.{unit}
-use Rattle.watched_literals.specs.Trails.{IsUnit, IsFalse, IsSettled, AllSettled, Grows, unset}
 use Rattle.watched_literals.proofs.Trails.{same_or_not, grows-unit, extends-on, Contains-take, neg-literal}
-use Rattle.watched_literals.specs.declared.watches.Pair.{Pair}
-use Rattle.watched_literals.specs.Literals.{code, IsWithin}
-use Rattle.watched_literals.specs.Watches.{IsWatch, no_pair, IsPair, IsStore, IsFree, IsTrueIn, AllWatched, Moves, AreHandled, Rises, Fails, Rewatches, Visits}
 use Rattle.watched_literals.proofs.Truths.{code-injective}
 
 pub Contains-none : {P : Type 0} (x : ℕ) → Contains [] x → P

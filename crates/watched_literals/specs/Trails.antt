@@ -4,7 +4,7 @@ use Rattle.std.specs.List.{All, Contains, filter, flat_map, list_any}
 use Rattle.std.specs.Ordering.{int_eq}
 use Rattle.std.specs.declared.option.Option.{Option}
 use Rattle.std.specs.declared.option.Option.TheVariants.{None, Some}
-use Rattle.word_kit.specs.Formulas.{IsLiteral}
+use Rattle.word_kit.specs.Prelude.{IsLiteral}
 use Rattle.watched_literals.specs.Propagation.{IsMadeTrue, HasConflict, Follows}
 
 -- no literal is true with its opposite

@@ -1,7 +1,7 @@
 //! Clauses of literals, and the written ones that they stand for.
 ghost use Rattle.std.specs.Prelude.{◌≡◌, IfOk};
 ghost use Rattle.std.specs.List.{All};
-ghost use Rattle.word_kit.specs.Formulas.{IsLiteral, AreClauses};
+ghost use Rattle.word_kit.specs.Prelude.{IsLiteral, AreClauses};
 
 use crate::literal::Literal;
 use std::alloc::Global;

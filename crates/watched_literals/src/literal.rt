@@ -1,6 +1,6 @@
 //! Literals.
 ghost use Rattle.std.specs.Prelude.{◌≡◌, ◌<◌, ◌^◌, pos, neg_ℤ};
-ghost use Rattle.word_kit.specs.Formulas.{IsLiteral, variable};
+ghost use Rattle.word_kit.specs.Prelude.{IsLiteral, variable};
 ghost use Rattle.watched_literals.specs.Literals.{code};
 
 use std::marker::Model;

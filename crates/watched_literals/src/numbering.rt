@@ -1,7 +1,7 @@
 //! Variables numbered in the order in which they are met.
 ghost use Rattle.std.specs.Prelude.{◌≡◌, ◌+◌, ◌*◌, [], List, ℤ, map, IfOk, OnOk};
 ghost use Rattle.std.specs.List.{All};
-ghost use Rattle.word_kit.specs.Formulas.{IsLiteral, AreClauses};
+ghost use Rattle.word_kit.specs.Prelude.{IsLiteral, AreClauses};
 ghost use Rattle.watched_literals.specs.Literals.{IsWithin};
 ghost use Rattle.watched_literals.specs.Numbers.{AreNames, IsNumbered, behind, Grown};
 

@@ -1,9 +1,7 @@
 -- From pairs that are alike to a body that does what the window does, over every oracle.
 use Rattle.std.proofs.Common.{◌≡◌, ℕ, Bool, List, length, sym, subst}
 use Rattle.std.specs.Prelude.{Option}
-use Rattle.circuit.specs.Nodes.{AllAgree}
-use Rattle.circuit.specs.Frame.{MayUntie}
-use Rattle.circuit.specs.Extensions.{Extends}
+use Rattle.circuit.specs.Prelude.{AllAgree, MayUntie, Extends}
 use Rattle.circuit.specs.declared.literals.Lit.{Lit}
 use Rattle.circuit.specs.declared.nodes.Node.{Node}
 use Rattle.chosen_inputs.specs.Choices.{CanChoose, later, chosen_fits}

@@ -1,6 +1,6 @@
 -- Pairs of a circuit are those of a later one.
 use Rattle.std.proofs.Common.{◌≡◌, ℕ, ◌≤◌, List, [], length, ap, arith}
-use Rattle.circuit.specs.Miters.{AreOwned}
+use Rattle.circuit.specs.Prelude.{AreOwned}
 use Rattle.circuit.specs.declared.literals.Lit.{Lit}
 
 pub owned_later : (m n : ℕ) (pairs : List (Lit × Lit)) → m ≤ n → AreOwned m pairs → AreOwned n pairs

@@ -1,7 +1,7 @@
 -- Rows and lines one after another.
 use Rattle.std.proofs.Common.{◌≡◌, ℕ, ◌+◌, ◌<◌, ◌≤◌, List, length, refl, ap, arith, add-one, get_or, ◌∙◌}
 use Rattle.std.proofs.lemmas.List.{get_or_default}
-use Rattle.circuit.specs.Frame.{MayUntie}
+use Rattle.circuit.specs.Prelude.{MayUntie}
 use Rattle.circuit.specs.declared.nodes.Node.{Node}
 use Rattle.circuit.specs.declared.literals.Lit.{Lit}
 use Rattle.access_circuits.specs.Bytes.{BytesOwned}

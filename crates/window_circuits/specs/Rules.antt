@@ -1,7 +1,7 @@
 -- When a body does what a window does.
 use Rattle.std.specs.Prelude.{◌≡◌, ◌<◌, ℕ, List, Option, Some, None, length}
 use Rattle.std.specs.List.{All}
-use Rattle.ia_codec.specs.Spelling.{IsInProfile}
+use Rattle.ia_codec.specs.Prelude.{IsInProfile}
 use Rattle.ia_codec.specs.declared.op.Op.{Op}
 use Rattle.row_runs.specs.Accesses.{Finds, always}
 use Rattle.row_runs.specs.Windows.{WindowRun, guest_steps}

@@ -1,7 +1,7 @@
 -- The inputs of a rule, and where a window and a body begin.
 use Rattle.std.specs.Prelude.{◌<◌, ◌≤◌, ◌+◌, ◌^◌, ℕ, zero, suc, false, List, [], slice_index_or, get_or}
-use Rattle.word_kit.specs.Bits.{bit_of, with_bit}
-use Rattle.ia_codec.specs.Effect.{Flags}
+use Rattle.word_kit.specs.Prelude.{bit_of, with_bit}
+use Rattle.ia_codec.specs.Prelude.{Flags}
 use Rattle.row_runs.specs.Windows.{WindowRun}
 use Rattle.row_runs.specs.Bodies.{BodyRun, Pick}
 use Rattle.place_circuits.specs.Places.{with_place}

@@ -2,10 +2,8 @@
 
 ghost use Rattle.std.specs.Prelude.{◌≡◌, ◌≤◌, ℕ, Bool, IsTrue, IfOk, OnOk, length};
 ghost use Rattle.std.specs.List.{All};
-ghost use Rattle.word_kit.specs.Formulas.{IsFormula};
-ghost use Rattle.circuit.specs.Nodes.{AllAgree};
-ghost use Rattle.circuit.specs.Frame.{MayUntie};
-ghost use Rattle.circuit.specs.Miters.{AreOwned, IsSatisfiable};
+ghost use Rattle.word_kit.specs.Prelude.{IsFormula};
+ghost use Rattle.circuit.specs.Prelude.{AllAgree, MayUntie, AreOwned, IsSatisfiable};
 ghost use Rattle.chosen_inputs.specs.Choices.{CanChoose};
 ghost use Rattle.chosen_inputs.specs.Pairs.{AreAlike};
 ghost use Rattle.row_runs.specs.Accesses.{always};

@@ -1,7 +1,7 @@
 //! Inputs by place.
 
 ghost use Rattle.std.specs.Prelude.{◌≡◌, ◌≤◌, ◌<◌, ◌+◌, [], ℕ, Bool, IfOk, OnOk, length, slice_index_or};
-ghost use Rattle.circuit.specs.Frame.{IsLater};
+ghost use Rattle.circuit.specs.Prelude.{IsLater};
 ghost use Rattle.chosen_inputs.specs.Choices.{CanChoose};
 ghost use Rattle.chosen_inputs.specs.Inputs.{with_inputs, word_of_inputs};
 ghost use Rattle.place_circuits.specs.Places.{HoldsPlaces, PlacesOwned};

@@ -2,8 +2,7 @@
 
 ghost use Rattle.std.specs.Prelude.{◌≡◌, ◌≤◌, List, ℕ, Bool, OnOk, length};
 ghost use Rattle.std.specs.List.{All};
-ghost use Rattle.circuit.specs.Nodes.{AllAgree};
-ghost use Rattle.circuit.specs.Frame.{MayUntie};
+ghost use Rattle.circuit.specs.Prelude.{AllAgree, MayUntie};
 ghost use Rattle.chosen_inputs.specs.Choices.{CanChoose};
 ghost use Rattle.row_runs.specs.Accesses.{always};
 ghost use Rattle.row_runs.specs.Windows.{WindowRun, guest_steps};

@@ -2,10 +2,7 @@
 
 ghost use Rattle.std.specs.Prelude.{◌≡◌, ◌≤◌, List, ℕ, Bool, Option, IfOk, OnOk, length};
 ghost use Rattle.std.specs.List.{All};
-ghost use Rattle.circuit.specs.Literals.{lit_truth, lit_reach};
-ghost use Rattle.circuit.specs.Nodes.{AllAgree};
-ghost use Rattle.circuit.specs.Frame.{IsLater, MayUntie};
-ghost use Rattle.circuit.specs.Miters.{AreOwned};
+ghost use Rattle.circuit.specs.Prelude.{lit_truth, lit_reach, AllAgree, IsLater, MayUntie, AreOwned};
 ghost use Rattle.chosen_inputs.specs.Pairs.{AreAlike};
 ghost use Rattle.row_runs.specs.Windows.{WindowRun};
 ghost use Rattle.row_runs.specs.Bodies.{BodyRun};

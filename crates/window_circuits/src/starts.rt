@@ -2,9 +2,7 @@
 
 ghost use Rattle.std.specs.Prelude.{◌≡◌, ◌≤◌, ℕ, Bool, IfOk, length};
 ghost use Rattle.std.specs.List.{All};
-ghost use Rattle.circuit.specs.Literals.{lit_truth, lit_reach, word_value, word_reach_below};
-ghost use Rattle.circuit.specs.Nodes.{AllAgree};
-ghost use Rattle.circuit.specs.Frame.{IsLater};
+ghost use Rattle.circuit.specs.Prelude.{lit_truth, lit_reach, word_value, word_reach_below, AllAgree, IsLater};
 ghost use Rattle.access_circuits.specs.Bytes.{HoldsBytes, BytesOwned};
 ghost use Rattle.place_circuits.specs.Places.{HoldsPlaces, PlacesOwned};
 ghost use Rattle.place_circuits.specs.Fields.{IsField};

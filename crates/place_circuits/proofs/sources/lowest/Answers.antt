@@ -1,4 +1,4 @@
-use Rattle.word_kit.specs.Bits.{byte_of}
+use Rattle.word_kit.specs.Prelude.{byte_of}
 use Rattle.place_circuits.proofs.sources.lowest.Goals as goal
 
 pub returns-clause-means : goal.returns-clause-means

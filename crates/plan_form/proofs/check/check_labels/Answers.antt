@@ -1,9 +1,5 @@
 use Rattle.std.proofs.Common.{inl, inr, ℕ, ◌-◌, refl, sym, subst, ap, ◌∙◌, Option}
-use Rattle.plan_form.specs.declared.check.Fault.{Fault}
-use Rattle.plan_form.specs.declared.problem.BadLabel.{BadLabel}
-use Rattle.plan_form.specs.Labels.{label_at, values_of}
-use Rattle.plan_form.specs.Plans.{entry_node}
-use Rattle.plan_form.specs.Faults.{IsFirstFault}
+use Rattle.plan_form.specs.Prelude.{Fault, BadLabel, label_at, values_of, entry_node, IsFirstFault}
 use Rattle.plan_form.proofs.Indexes.{map-once}
 use Rattle.plan_form.proofs.Costs.{walk-once}
 use Rattle.plan_form.proofs.Faulty.{none-obeyed}

@@ -1,6 +1,5 @@
-use Rattle.plan_form.specs.Labels.{values_of}
+use Rattle.plan_form.specs.Prelude.{values_of, label_at}
 use Rattle.std.proofs.Common.{ap, arith}
-use Rattle.plan_form.specs.Labels.{label_at}
 use Rattle.plan_form.proofs.Counts.{few-maps}
 use Rattle.plan_form.proofs.Indexes.{map-once}
 use Rattle.plan_form.proofs.check.fault_of.Goals as goal

@@ -1,4 +1,4 @@
-use Rattle.plan_form.specs.Labels.{values_of}
+use Rattle.plan_form.specs.Prelude.{values_of}
 use Rattle.std.proofs.Common.{length}
 use Rattle.plan_form.proofs.Faulty.{sound-on, moves-on, moves-kept, offers-on}
 use Rattle.plan_form.proofs.check.first_fault.Goals as goal

@@ -1,6 +1,5 @@
-use Rattle.plan_form.specs.Labels.{values_of}
+use Rattle.plan_form.specs.Prelude.{values_of, IsSound}
 use Rattle.std.proofs.Common.{length}
-use Rattle.plan_form.specs.Faults.{IsSound}
 use Rattle.plan_form.proofs.Faulty.{MovesFound, OffersFound}
 use Rattle.plan_form.proofs.check.first_fault.Given as goal
 

@@ -1,9 +1,6 @@
-use Rattle.plan_form.specs.Labels.{values_of}
+use Rattle.plan_form.specs.Prelude.{values_of, Node, Go, IsFound}
 use Rattle.std.proofs.Common.{subst}
-use Rattle.plan_form.specs.Plans.{Node}
-use Rattle.plan_form.specs.declared.problem.Step.TheVariants.{Go}
-use Rattle.ppc_isa.specs.declared.map.Map.{Map}
-use Rattle.plan_form.specs.Faults.{IsFound}
+use Rattle.machines.specs.Prelude.{Map}
 use Rattle.plan_form.proofs.Faulty.{found-of}
 use Rattle.plan_form.proofs.check.move_fault.Goals as goal
 

@@ -1,5 +1,4 @@
-use Rattle.plan_form.specs.Labels.{values_of}
-use Rattle.plan_form.specs.declared.problem.Step.TheVariants.{Lay}
+use Rattle.plan_form.specs.Prelude.{values_of, Lay}
 use Rattle.plan_form.proofs.Faulty.{found-of}
 use Rattle.plan_form.proofs.check.offer_fault.Goals as goal
 

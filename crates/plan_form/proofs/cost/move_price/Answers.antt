@@ -1,5 +1,5 @@
 use Rattle.std.proofs.Common.{ℕ}
-use Rattle.plan_form.specs.declared.problem.MovePrice.{MovePrice}
+use Rattle.plan_form.specs.Prelude.{MovePrice}
 use Rattle.plan_form.proofs.Parts.{front-search}
 use Rattle.plan_form.proofs.cost.move_price.Goals as goal
 

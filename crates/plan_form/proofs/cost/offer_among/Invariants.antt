@@ -1,5 +1,5 @@
 use Rattle.std.proofs.Common.{◌≡◌, ◌<◌, ℕ, get_or}
-use Rattle.plan_form.specs.declared.problem.Offer.{Offer}
+use Rattle.plan_form.specs.Prelude.{Offer}
 use Rattle.plan_form.proofs.cost.offer_among.Given as goal
 
 abbrev pub invariant-loop-item : goal.invariant-loop-item

@@ -1,5 +1,5 @@
 use Rattle.std.proofs.Common.{◌≡◌, ℕ}
-use Rattle.plan_form.specs.declared.problem.Offer.{Offer}
+use Rattle.plan_form.specs.Prelude.{Offer}
 use Rattle.plan_form.proofs.Parts.{front-offer}
 use Rattle.plan_form.proofs.cost.offer_of.Goals as goal
 

@@ -1,9 +1,6 @@
 use Rattle.std.proofs.Common.{◌≡◌, suc, Contains, ◌-◌, refl, sym, ◌∙◌, subst, arith, List}
-use Rattle.plan_form.specs.declared.problem.Step.{Step}
-use Rattle.plan_form.specs.declared.problem.Step.TheVariants.{Go, Lay}
-use Rattle.plan_form.specs.declared.problem.MovePrice.{MovePrice}
-use Rattle.reg_map.specs.Moves.{moved}
-use Rattle.plan_form.specs.Plans.{Node, IsValidPlan}
+use Rattle.plan_form.specs.Prelude.{Step, Go, Lay, MovePrice, Node, IsValidPlan}
+use Rattle.reg_map.specs.Prelude.{moved}
 use Rattle.plan_form.proofs.Costs.{node-same, follow, followed-as, stuck, arrives}
 use Rattle.plan_form.proofs.cost.plan_cost.Goals as goal
 use Rattle.plan_form.proofs.cost.plan_cost.Goals.{in-Go+else-left-eq0+in-Some, in-Lay+in-Some-offer_of}

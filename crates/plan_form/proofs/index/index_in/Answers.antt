@@ -1,5 +1,5 @@
 use Rattle.std.proofs.Common.{get_or, sym, subst, ap, ◌∙◌}
-use Rattle.plan_form.specs.Labels.{IsAt}
+use Rattle.plan_form.specs.Prelude.{IsAt}
 use Rattle.plan_form.proofs.Keyed.{index-found}
 use Rattle.plan_form.proofs.index.index_in.Goals as goal
 

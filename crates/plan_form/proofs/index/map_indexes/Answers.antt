@@ -1,8 +1,7 @@
 use Rattle.std.proofs.Common.{◌<◌, length, sym, subst, ap, ◌∙◌, arith}
 use Rattle.std.proofs.lemmas.List.{get_or_read}
-use Rattle.ppc_isa.specs.declared.map.Map.{Map}
-use Rattle.ppc_isa.specs.Map.{IsMap}
-use Rattle.plan_form.specs.Keys.{key}
+use Rattle.machines.specs.Prelude.{Map, IsMap}
+use Rattle.plan_form.specs.Prelude.{key}
 use Rattle.plan_form.proofs.Counts.{few-maps}
 use Rattle.plan_form.proofs.Keyed.{index-more, map-small}
 use Rattle.plan_form.proofs.index.map_indexes.Goals as goal

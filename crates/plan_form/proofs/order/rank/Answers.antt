@@ -1,7 +1,7 @@
 use Rattle.std.proofs.Common.{◌≡◌, ◌≤◌, sym, ◌∙◌, subst, arith, length, get_or, true, List, None}
 use Rattle.std.proofs.lemmas.List.Sums.{position_or_len_is}
-use Rattle.ppc_isa.specs.declared.map.Map.{Map}
-use Rattle.plan_form.specs.Plans.{is_alone}
+use Rattle.machines.specs.Prelude.{Map}
+use Rattle.plan_form.specs.Prelude.{is_alone}
 use Rattle.plan_form.proofs.order.rank.Goals as goal
 
 pub returns-then-is_lone-clause-rank : goal.returns-then-is_lone-clause-rank

@@ -1,6 +1,6 @@
 use Rattle.std.proofs.Common.{◌≡◌, ℕ, ◌<◌, get_or, false}
-use Rattle.ppc_isa.specs.declared.map.Map.{Map}
-use Rattle.plan_form.specs.Plans.{is_alone}
+use Rattle.machines.specs.Prelude.{Map}
+use Rattle.plan_form.specs.Prelude.{is_alone}
 use Rattle.plan_form.proofs.order.rank.Given as goal
 
 abbrev pub invariant-loop-index : goal.invariant-loop-index

@@ -1,6 +1,6 @@
 use Rattle.std.proofs.Common.{◌++◌, ◌∷◌, [], take, below_more, sym, subst, ap, ◌∙◌, arith}
 use Rattle.std.proofs.lemmas.List.{get_or_read}
-use Rattle.watched_literals.specs.Propagators.{IsReady}
+use Rattle.watched_literals.specs.Prelude.{IsReady}
 use Rattle.refute_check.specs.Refutations.{StepFollows}
 use Rattle.refute_check.proofs.Steps.{step-judged, bad-step, steps-front}
 use Rattle.refute_check.proofs.checking.first_bad.Goals as goal

@@ -1,5 +1,5 @@
 use Rattle.std.proofs.Common.{◌≡◌, ℕ, ◌<◌, take, ◌++◌}
-use Rattle.watched_literals.specs.Propagators.{IsReady}
+use Rattle.watched_literals.specs.Prelude.{IsReady}
 use Rattle.refute_check.specs.Refutations.{StepFollows}
 use Rattle.refute_check.proofs.checking.first_bad.Given as goal
 

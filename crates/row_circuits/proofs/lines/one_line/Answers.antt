@@ -1,7 +1,7 @@
 use Rattle.std.proofs.Common.{ℕ, sym, ◌∙◌, ap, subst, arith}
-use Rattle.circuit.specs.Nodes.{AllAgree, IsInput}
+use Rattle.circuit.specs.Prelude.{AllAgree, IsInput}
 use Rattle.chosen_inputs.specs.Choices.{later, chosen_map, chosen_behind}
-use Rattle.ia_codec.specs.Rows.{host_row}
+use Rattle.ia_codec.specs.Prelude.{host_row}
 use Rattle.row_circuits.specs.Choices.{left_pick}
 use Rattle.row_circuits.proofs.Shown.{values_shown}
 use Rattle.row_circuits.proofs.lines.one_line.Goals as goal

@@ -1,6 +1,6 @@
 use Rattle.std.proofs.Common.{◌++◌, sym, subst, ◌∙◌, refl}
-use Rattle.word_kit.specs.Bits.{byte_of}
-use Rattle.circuit.specs.Nodes.{AllAgree}
+use Rattle.word_kit.specs.Prelude.{byte_of}
+use Rattle.circuit.specs.Prelude.{AllAgree}
 use Rattle.row_runs.specs.Bodies.{result_accesses}
 use Rattle.access_circuits.specs.Lists.{AreAccesses}
 use Rattle.row_circuits.specs.Bodies.{stored_to}

@@ -1,5 +1,5 @@
 use Rattle.std.proofs.Common.{ap, subst}
-use Rattle.circuit.specs.Nodes.{AllAgree}
+use Rattle.circuit.specs.Prelude.{AllAgree}
 use Rattle.row_circuits.proofs.rows.one_row.Goals as goal
 
 pub returns-clause-means : goal.returns-clause-means

@@ -1,6 +1,6 @@
 use Rattle.std.proofs.Common.{◌++◌, ap, sym, subst, refl}
-use Rattle.ppc_parts.specs.Meanings.{kind_of}
-use Rattle.circuit.specs.Literals.{word_value}
+use Rattle.ppc_parts.specs.Prelude.{kind_of}
+use Rattle.circuit.specs.Prelude.{word_value}
 use Rattle.access_circuits.specs.Lists.{AreAccesses}
 use Rattle.row_runs.specs.Windows.{row_accesses}
 use Rattle.row_circuits.proofs.Running.{on_ok_map}

@@ -1,9 +1,7 @@
 use Rattle.std.proofs.Common.{reverse, [], refl, sym, subst, ap, ◌∙◌}
 use Rattle.std.specs.List.{All}
-use Rattle.watched_literals.specs.Propagation.{without}
-use Rattle.watched_literals.specs.Literals.{IsWithin}
+use Rattle.watched_literals.specs.Prelude.{without, IsWithin, IsReady}
 use Rattle.watched_literals.proofs.Trails.{differs, equals}
-use Rattle.watched_literals.specs.Propagators.{IsReady}
 use Rattle.sat_core.proofs.Without.{all-within, without-within}
 use Rattle.sat_core.proofs.Tight.{IsTightened, tightened-start, tightened-next_out, tightened-next_stays, tightened-next_last, tightened-lesson, tightened-end}
 use Rattle.sat_core.proofs.minimizing.minimize.Goals as goal

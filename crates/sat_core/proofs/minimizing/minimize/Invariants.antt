@@ -1,8 +1,7 @@
 use Rattle.std.proofs.Common.{◌≡◌, List, ℤ, take}
 use Rattle.std.specs.List.{All}
-use Rattle.watched_literals.specs.Literals.{IsWithin}
-use Rattle.watched_literals.specs.Propagators.{IsReady}
-use Rattle.sat_core.specs.Decisions.{IsGained}
+use Rattle.watched_literals.specs.Prelude.{IsWithin, IsReady}
+use Rattle.sat_core.specs.Prelude.{IsGained}
 use Rattle.sat_core.proofs.Tight.{IsTightened}
 use Rattle.sat_core.proofs.minimizing.minimize.Given as goal
 

@@ -1,5 +1,5 @@
 use Rattle.std.proofs.Common.{◌++◌, ◌∷◌, [], take, sym, ap, ◌∙◌}
-use Rattle.watched_literals.specs.Propagation.{without}
+use Rattle.watched_literals.specs.Prelude.{without}
 use Rattle.watched_literals.proofs.Trails.{take-item, differs, equals}
 use Rattle.sat_core.proofs.Without.{without-kept, without-left}
 use Rattle.sat_core.proofs.minimizing.without.Goals as goal

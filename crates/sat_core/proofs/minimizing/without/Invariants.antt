@@ -1,5 +1,5 @@
 use Rattle.std.proofs.Common.{◌≡◌, take}
-use Rattle.watched_literals.specs.Propagation.{without}
+use Rattle.watched_literals.specs.Prelude.{without}
 use Rattle.sat_core.proofs.minimizing.without.Given as goal
 
 abbrev pub invariant-loop-other : goal.invariant-loop-other

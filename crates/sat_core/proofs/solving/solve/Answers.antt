@@ -1,7 +1,6 @@
 use Rattle.std.proofs.Common.{◌++◌, ◌∷◌, [], length, sym, subst, ap, ◌∙◌}
-use Rattle.watched_literals.specs.Propagators.{IsReady}
-use Rattle.sat_core.specs.Lessons.{IsLesson}
-use Rattle.sat_core.specs.Searching.{Finds}
+use Rattle.watched_literals.specs.Prelude.{IsReady}
+use Rattle.sat_core.specs.Prelude.{IsLesson, Finds}
 use Rattle.sat_core.proofs.Turns.{pushed-within, pushed-learned, ended}
 use Rattle.sat_core.proofs.solving.solve.Goals as goal
 

@@ -1,6 +1,5 @@
 use Rattle.std.proofs.Common.{◌≡◌, ◌-◌, ◌≤◌, length}
-use Rattle.sat_core.specs.Searching.{IsRooted}
-use Rattle.sat_core.specs.Verdicts.{AreLearned}
+use Rattle.sat_core.specs.Prelude.{IsRooted, AreLearned}
 use Rattle.sat_core.proofs.solving.solve.Given as goal
 
 abbrev pub invariant-learning : goal.invariant-learning

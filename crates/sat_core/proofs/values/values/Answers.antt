@@ -1,5 +1,5 @@
 use Rattle.std.proofs.Common.{◌+◌, sym, subst}
-use Rattle.sat_core.specs.Decisions.{AreRead}
+use Rattle.sat_core.specs.Prelude.{AreRead}
 use Rattle.sat_core.proofs.Models.{read-more}
 use Rattle.sat_core.proofs.values.values.Goals as goal
 

@@ -1,4 +1,4 @@
-use Rattle.sat_core.specs.Decisions.{AreRead}
+use Rattle.sat_core.specs.Prelude.{AreRead}
 use Rattle.sat_core.proofs.values.values.Given as goal
 
 abbrev pub invariant-loop-index : goal.invariant-loop-index

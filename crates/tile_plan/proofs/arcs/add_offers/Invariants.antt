@@ -1,5 +1,5 @@
 use Rattle.std.proofs.Common.{map, length}
-use Rattle.tile_plan.specs.Arcs.{AreSoFar}
+use Rattle.tile_plan.specs.Prelude.{AreSoFar}
 use Rattle.tile_plan.proofs.arcs.add_offers.Given as goal
 
 abbrev pub invariant-loop-item : goal.invariant-loop-item

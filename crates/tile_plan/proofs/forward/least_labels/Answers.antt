@@ -1,6 +1,6 @@
 use Rattle.std.proofs.Common.{◌≡◌, ◌-◌, [], ◌∷◌, ◌++◌, length, get_or, map, sym, subst, ap, ◌∙◌, arith}
 use Rattle.std.proofs.lemmas.List.{length-map, map-append}
-use Rattle.tile_plan.specs.Forward.{AreForward, IsForwardRow}
+use Rattle.tile_plan.specs.Prelude.{AreForward, IsForwardRow}
 use Rattle.tile_plan.proofs.Leasts.{read-zero}
 use Rattle.tile_plan.proofs.Forwards.{forward-push}
 use Rattle.tile_plan.proofs.forward.least_labels.Goals as goal

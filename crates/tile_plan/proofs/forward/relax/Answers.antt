@@ -1,9 +1,7 @@
 use Rattle.std.proofs.Common.{◌<◌, ◌+◌, length, get_or, refl, sym, subst, arith}
 use Rattle.plan_form.specs.declared.problem.Step.TheVariants.{Go}
 use Rattle.reg_map.specs.declared.moves.Move.TheVariants.{Drop}
-use Rattle.tile_plan.specs.declared.arcs.Arc.{Arc}
-use Rattle.tile_plan.specs.Arcs.{IsArc}
-use Rattle.tile_plan.specs.Forward.{IsRelaxed}
+use Rattle.tile_plan.specs.Prelude.{Arc, IsArc, IsRelaxed}
 use Rattle.tile_plan.proofs.Leasts.{read-zero}
 use Rattle.tile_plan.proofs.Forwards.{relax-kept, relax-lowered}
 use Rattle.tile_plan.proofs.forward.relax.Goals as goal

@@ -3,8 +3,7 @@ use Rattle.plan_form.proofs.Costs.{price-small}
 use Rattle.tile_plan.proofs.Leasts.{IsPartRow, read-zero, row-kept, row-lowered, row-whole}
 use Rattle.plan_form.specs.declared.problem.Step.TheVariants.{Go}
 use Rattle.reg_map.specs.declared.moves.Move.TheVariants.{Drop}
-use Rattle.tile_plan.specs.declared.arcs.Arc.{Arc}
-use Rattle.tile_plan.specs.Arcs.{IsArc, node_at}
+use Rattle.tile_plan.specs.Prelude.{Arc, IsArc, node_at}
 use Rattle.tile_plan.proofs.table.weights_at.Goals as goal
 use Rattle.tile_plan.proofs.table.weights_at.Goals.{then-behind-lt-NEVER+then-weight-index, then-behind-lt-NEVER+else-weight-index, else-behind-lt-NEVER}
 

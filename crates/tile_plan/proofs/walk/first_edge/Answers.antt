@@ -1,11 +1,9 @@
 use Rattle.std.proofs.Common.{◌≡◌, ℕ, ◌≤◌, sym, ◌∙◌, subst, arith, get_or, MatchOption, Option}
 use Rattle.std.proofs.lemmas.Bool.{false≢true}
-use Rattle.plan_form.specs.Plans.{order}
+use Rattle.plan_form.specs.Prelude.{order}
 use Rattle.plan_form.specs.declared.problem.Step.TheVariants.{Go}
 use Rattle.reg_map.specs.declared.moves.Move.TheVariants.{Drop}
-use Rattle.tile_plan.specs.declared.arcs.Arc.{Arc}
-use Rattle.tile_plan.specs.Arcs.{IsArc, node_at}
-use Rattle.tile_plan.specs.Choice.{IsTight}
+use Rattle.tile_plan.specs.Prelude.{Arc, IsArc, node_at, IsTight}
 use Rattle.tile_plan.proofs.Orders.{order-small}
 use Rattle.tile_plan.proofs.Firsts.{first-more}
 use Rattle.tile_plan.proofs.walk.first_edge.Goals as goal

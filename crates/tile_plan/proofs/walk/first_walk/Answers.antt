@@ -1,11 +1,9 @@
 use Rattle.std.proofs.Common.{◌≡◌, ◌<◌, ◌*◌, refl, sym, ap, ◌∙◌, subst, arith, length, map, []}
 use Rattle.std.proofs.lemmas.List.{append-nil}
 use Rattle.std.proofs.lemmas.List.{get_or-map, length-map}
-use Rattle.plan_form.specs.Plans.{entry_node}
+use Rattle.plan_form.specs.Prelude.{entry_node}
 use Rattle.plan_form.proofs.Costs.{leaves-once}
-use Rattle.tile_plan.specs.Arcs.{AreArcs, node_at}
-use Rattle.tile_plan.specs.Least.{IsLeast}
-use Rattle.tile_plan.specs.Choice.{IsFirst}
+use Rattle.tile_plan.specs.Prelude.{AreArcs, node_at, IsLeast, IsFirst}
 use Rattle.tile_plan.proofs.Firsts.{walked-tight, walked-on, walk-begins, walked-as, first-end}
 use Rattle.tile_plan.proofs.walk.first_walk.Goals as goal
 

@@ -1,6 +1,5 @@
 use Rattle.std.proofs.Common.{subst}
-use Rattle.watched_literals.specs.Trails.{Denies}
-use Rattle.watched_literals.specs.Watches.{Propagates}
+use Rattle.watched_literals.specs.Prelude.{Denies, Propagates}
 use Rattle.watched_literals.proofs.Knowing.{watched-front, tried-end}
 use Rattle.watched_literals.proofs.propagator.attempt.Goals as goal
 

@@ -3,9 +3,8 @@ use Rattle.std.specs.List.{list_any}
 use Rattle.std.specs.Ordering.{int_eq}
 use Rattle.std.proofs.lemmas.List.Elements.{All-contains}
 use Rattle.indexmap.specs.IndexSet.{insert_key}
-use Rattle.watched_literals.specs.Literals.{IsWithin, AreReasoned}
+use Rattle.watched_literals.specs.Prelude.{IsWithin, AreReasoned, IsDenied}
 use Rattle.watched_literals.proofs.Reasons.{reasoned-none}
-use Rattle.watched_literals.specs.Trails.{IsDenied}
 use Rattle.watched_literals.proofs.Trails.{denied-start, denied-more, denied-true, listed, unlisted, inserted, item-inside, take-item}
 use Rattle.watched_literals.proofs.propagator.deny.Goals as goal
 use Rattle.watched_literals.proofs.propagator.deny.Goals.{then-not-holds+in_ok-push, else-not-holds}

@@ -1,6 +1,5 @@
 use Rattle.std.proofs.Common.{◌≡◌, List, ℤ, take}
-use Rattle.watched_literals.specs.Trails.{IsDenied}
-use Rattle.watched_literals.specs.Literals.{AreReasoned}
+use Rattle.watched_literals.specs.Prelude.{IsDenied, AreReasoned}
 use Rattle.watched_literals.proofs.propagator.deny.Given as goal
 
 abbrev pub invariant-loop-literal : goal.invariant-loop-literal

@@ -1,7 +1,7 @@
 use Rattle.std.proofs.Common.{◌++◌, ◌∷◌, [], neg_ℤ, take, sym, subst, ap, ◌∙◌}
 use Rattle.std.specs.List.{list_any}
 use Rattle.std.specs.Ordering.{int_eq}
-use Rattle.watched_literals.specs.Trails.{Leaves}
+use Rattle.watched_literals.specs.Prelude.{Leaves}
 use Rattle.watched_literals.proofs.Trails.{listed, unlisted, item-inside, take-item, differs, equals, leaves-same, leaves-all}
 use Rattle.watched_literals.proofs.Knowing.{open-two, leaves-first, leaves-again}
 use Rattle.watched_literals.proofs.standing.standing_of.Goals as goal

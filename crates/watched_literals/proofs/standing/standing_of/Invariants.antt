@@ -1,5 +1,5 @@
 use Rattle.std.proofs.Common.{take}
-use Rattle.watched_literals.specs.Trails.{Leaves}
+use Rattle.watched_literals.specs.Prelude.{Leaves}
 use Rattle.watched_literals.proofs.standing.standing_of.Given as goal
 
 abbrev pub invariant-loop-literal : goal.invariant-loop-literal

@@ -1,5 +1,5 @@
 use Rattle.std.proofs.Common.{◌≡◌, ℕ, length, sym, ap, subst, arith}
-use Rattle.circuit.specs.Nodes.{IsInput}
+use Rattle.circuit.specs.Prelude.{IsInput}
 use Rattle.chosen_inputs.specs.Choices.{both, later, chosen_map}
 use Rattle.window_circuits.specs.Starts.{loaded_bytes, window_begins, body_begins}
 use Rattle.window_circuits.proofs.formula.run_both.Goals as goal

@@ -1,6 +1,5 @@
 use Rattle.std.proofs.Common.{◌+◌, slice_index_or, ◌≡◌, ◌<◌, ◌≤◌, length, sym, refl, ap, subst, arith, length-set, ◌∙◌}
-use Rattle.circuit.specs.Literals.{word_value, word_reach_below}
-use Rattle.circuit.specs.Nodes.{AllAgree, IsInput, free_count}
+use Rattle.circuit.specs.Prelude.{word_value, word_reach_below, AllAgree, IsInput, free_count}
 use Rattle.chosen_inputs.specs.Choices.{both, chosen_map, chosen_none_at}
 use Rattle.chosen_inputs.specs.Inputs.{with_inputs, word_of_inputs}
 use Rattle.window_circuits.specs.Starts.{bits_before}

@@ -1,6 +1,5 @@
 use Rattle.std.proofs.Common.{◌+◌, ◌≡◌, ℕ, ◌<◌, ◌≤◌, length, slice_index_or, []}
-use Rattle.circuit.specs.Literals.{word_value, word_reach_below}
-use Rattle.circuit.specs.Frame.{IsLater}
+use Rattle.circuit.specs.Prelude.{word_value, word_reach_below, IsLater}
 use Rattle.chosen_inputs.specs.Inputs.{with_inputs, word_of_inputs}
 use Rattle.chosen_inputs.specs.Choices.{CanChoose}
 use Rattle.window_circuits.specs.Starts.{AreWithin, bits_before}

@@ -1,5 +1,5 @@
 use Rattle.std.proofs.Common.{◌≡◌, ℕ, length, refl, sym, subst, arith}
-use Rattle.circuit.specs.Nodes.{AllAgree}
+use Rattle.circuit.specs.Prelude.{AllAgree}
 use Rattle.chosen_inputs.specs.Choices.{CanChoose, both, chosen_map, chosen_none_at}
 use Rattle.access_circuits.specs.Bytes.{HoldsBytes}
 use Rattle.row_runs.specs.Accesses.{always}

@@ -1,6 +1,5 @@
 use Rattle.std.proofs.Common.{ℕ, length}
-use Rattle.circuit.specs.Nodes.{AllAgree}
-use Rattle.circuit.specs.Frame.{MayUntie}
+use Rattle.circuit.specs.Prelude.{AllAgree, MayUntie}
 use Rattle.chosen_inputs.specs.Choices.{CanChoose}
 use Rattle.access_circuits.specs.Bytes.{HoldsBytes, BytesOwned}
 use Rattle.row_runs.specs.Accesses.{always}

@@ -1,5 +1,5 @@
 use Rattle.std.proofs.Common.{◌≡◌, ℕ, Bool, length, sym, subst, arith}
-use Rattle.circuit.specs.Nodes.{AllAgree}
+use Rattle.circuit.specs.Prelude.{AllAgree}
 use Rattle.access_circuits.specs.Bytes.{HoldsBytes}
 use Rattle.row_runs.specs.Accesses.{always}
 use Rattle.row_runs.specs.Windows.{WindowRun, guest_steps}

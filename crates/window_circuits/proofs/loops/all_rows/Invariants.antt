@@ -1,6 +1,5 @@
 use Rattle.std.proofs.Common.{ℕ, Bool, length}
-use Rattle.circuit.specs.Nodes.{AllAgree}
-use Rattle.circuit.specs.Frame.{MayUntie}
+use Rattle.circuit.specs.Prelude.{AllAgree, MayUntie}
 use Rattle.access_circuits.specs.Bytes.{HoldsBytes, BytesOwned}
 use Rattle.row_runs.specs.Accesses.{always}
 use Rattle.row_runs.specs.Windows.{WindowRun, guest_steps}

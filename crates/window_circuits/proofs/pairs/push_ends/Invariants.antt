@@ -1,7 +1,5 @@
 use Rattle.std.proofs.Common.{◌≡◌, ℕ, ◌<◌, Bool, length, get_or}
-use Rattle.circuit.specs.Nodes.{AllAgree}
-use Rattle.circuit.specs.Frame.{IsLater}
-use Rattle.circuit.specs.Miters.{AreOwned}
+use Rattle.circuit.specs.Prelude.{AllAgree, IsLater, AreOwned}
 use Rattle.chosen_inputs.specs.Pairs.{AreAlike}
 use Rattle.place_circuits.specs.Places.{HoldsPlaces, PlacesOwned}
 use Rattle.place_circuits.specs.Fields.{field_value}

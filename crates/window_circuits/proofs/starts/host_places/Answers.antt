@@ -1,5 +1,5 @@
 use Rattle.std.proofs.Common.{◌≡◌, ℕ, Bool, refl, sym, ◌∙◌, subst, arith}
-use Rattle.circuit.specs.Nodes.{AllAgree}
+use Rattle.circuit.specs.Prelude.{AllAgree}
 use Rattle.place_circuits.specs.Places.{HoldsPlaces}
 use Rattle.window_circuits.specs.Starts.{with_homes}
 use Rattle.window_circuits.proofs.Starting.{places_later, homes_none, homes_one_more}

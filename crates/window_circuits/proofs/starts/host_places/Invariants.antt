@@ -1,6 +1,5 @@
 use Rattle.std.proofs.Common.{ℕ, Bool, length}
-use Rattle.circuit.specs.Nodes.{AllAgree}
-use Rattle.circuit.specs.Frame.{IsLater}
+use Rattle.circuit.specs.Prelude.{AllAgree, IsLater}
 use Rattle.place_circuits.specs.Places.{HoldsPlaces, PlacesOwned}
 use Rattle.window_circuits.specs.Starts.{with_homes}
 use Rattle.window_circuits.proofs.starts.host_places.Given as goal

@@ -4,10 +4,8 @@ use Rattle.std.specs.Ordering.{int_eq}
 use Rattle.std.proofs.lemmas.Bool.{false≢true}
 use Rattle.std.proofs.lemmas.List.Elements.{All-push}
 use Rattle.watched_literals.proofs.Trails.{listed, unlisted}
-use Rattle.watched_literals.specs.Literals.{IsWithin}
-use Rattle.watched_literals.specs.Propagators.{Spreads}
-use Rattle.sat_core.specs.Decisions.{IsLiteralOf}
-use Rattle.sat_core.specs.Searching.{known}
+use Rattle.watched_literals.specs.Prelude.{IsWithin, Spreads}
+use Rattle.sat_core.specs.Prelude.{IsLiteralOf, known}
 use Rattle.sat_core.proofs.Chosen.{leads-valued, leads-false, leads-open}
 use Rattle.sat_core.proofs.Reaching.{within-neg, some-none}
 use Rattle.sat_core.proofs.search.Search.assume.Goals as goal

@@ -1,5 +1,5 @@
 use Rattle.std.proofs.Common.{[], None, take, sym, ◌+◌}
-use Rattle.sat_core.specs.Decisions.{IsLiteralOf}
+use Rattle.sat_core.specs.Prelude.{IsLiteralOf}
 use Rattle.sat_core.proofs.Reaching.{reaches-start, none-of, searching-on, reaches-next, reaches-going, reaches-stopped, reaches-all}
 use Rattle.sat_core.proofs.search.Search.assume_all.Goals as goal
 

@@ -1,6 +1,5 @@
 use Rattle.std.proofs.Common.{take, None}
-use Rattle.sat_core.specs.Decisions.{IsLiteralOf}
-use Rattle.sat_core.specs.Searching.{Reaches}
+use Rattle.sat_core.specs.Prelude.{IsLiteralOf, Reaches}
 use Rattle.sat_core.proofs.search.Search.assume_all.Given as goal
 
 abbrev pub invariant-loop-literal : goal.invariant-loop-literal

@@ -1,7 +1,7 @@
 use Rattle.std.proofs.Common.{◌+◌, None, pos, min, sym, subst, arith}
-use Rattle.watched_literals.specs.Literals.{IsWithin}
+use Rattle.watched_literals.specs.Prelude.{IsWithin}
 use Rattle.watched_literals.proofs.Numbers.{within-of}
-use Rattle.sat_core.specs.Decisions.{IsVariable}
+use Rattle.sat_core.specs.Prelude.{IsVariable}
 use Rattle.sat_core.proofs.Reaching.{reaches-start, no-variable, searching-on, reaches-variable, reaches-going, reaches-stopped, reaches-variables}
 use Rattle.sat_core.proofs.search.Search.assume_variables.Goals as goal
 

@@ -1,6 +1,5 @@
 use Rattle.std.proofs.Common.{None}
-use Rattle.sat_core.specs.Decisions.{IsVariable}
-use Rattle.sat_core.specs.Searching.{Reaches}
+use Rattle.sat_core.specs.Prelude.{IsVariable, Reaches}
 use Rattle.sat_core.proofs.search.Search.assume_variables.Given as goal
 
 abbrev pub invariant-loop-index : goal.invariant-loop-index

@@ -1,6 +1,5 @@
 use Rattle.std.proofs.Common.{inr, sym, subst}
-use Rattle.sat_core.specs.Decisions.{IsVariable}
-use Rattle.sat_core.specs.Searching.{Reaches}
+use Rattle.sat_core.specs.Prelude.{IsVariable, Reaches}
 use Rattle.sat_core.proofs.Reaching.{reaches-on, reaches-going, searching-on}
 use Rattle.sat_core.proofs.search.Search.decide.Goals as goal
 

@@ -1,6 +1,6 @@
 use Rattle.std.proofs.Common.{◌++◌, ◌∷◌, [], refl, sym, subst, ap, ◌∙◌, append_assoc}
-use Rattle.watched_literals.specs.Propagators.{IsReady}
-use Rattle.sat_core.specs.Searching.{known}
+use Rattle.watched_literals.specs.Prelude.{IsReady}
+use Rattle.sat_core.specs.Prelude.{known}
 use Rattle.sat_core.proofs.Turns.{pushed-clauses, within-literals}
 use Rattle.sat_core.proofs.search.Search.learn.Goals as goal
 

@@ -1,8 +1,7 @@
 use Rattle.std.proofs.Common.{refl, sym, subst, ◌∙◌}
 use Rattle.std.specs.List.{All}
-use Rattle.watched_literals.specs.Literals.{IsWithin}
-use Rattle.sat_core.specs.Decisions.{IsGained}
-use Rattle.sat_core.specs.Searching.{known, Reaches}
+use Rattle.watched_literals.specs.Prelude.{IsWithin}
+use Rattle.sat_core.specs.Prelude.{IsGained, known, Reaches}
 use Rattle.sat_core.proofs.Reaching.{restarted-searching, is-back, IsBack, taught-back, known-kept}
 use Rattle.sat_core.proofs.search.Search.lesson.Goals as goal
 

@@ -1,5 +1,5 @@
 use Rattle.std.proofs.Common.{◌∙◌, ap, refl}
-use Rattle.sat_core.specs.Searching.{known}
+use Rattle.sat_core.specs.Prelude.{known}
 use Rattle.sat_core.proofs.search.Search.restart.Goals as goal
 
 pub returns-clause-restarts : goal.returns-clause-restarts

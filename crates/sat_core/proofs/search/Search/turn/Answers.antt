@@ -1,6 +1,5 @@
 use Rattle.std.proofs.Common.{refl, subst}
-use Rattle.sat_core.specs.Decisions.{IsVariable, AreRead}
-use Rattle.sat_core.specs.Searching.{Reaches}
+use Rattle.sat_core.specs.Prelude.{IsVariable, AreRead, Reaches}
 use Rattle.sat_core.proofs.Models.{model-of}
 use Rattle.sat_core.proofs.Reaching.{rooted-searching, conflict-of}
 use Rattle.sat_core.proofs.search.Search.turn.Goals as goal

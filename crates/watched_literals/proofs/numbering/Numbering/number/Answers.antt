@@ -1,6 +1,6 @@
 use Rattle.std.proofs.Common.{◌≡◌, pos, negsuc, suc, neg_ℤ, nat_abs, sym, ap, ◌∙◌, w32, arith}
 use Rattle.std.proofs.lemmas.Int.{to_z-of_z}
-use Rattle.watched_literals.specs.Numbers.{behind, name}
+use Rattle.watched_literals.specs.Prelude.{behind, name}
 use Rattle.watched_literals.proofs.Numbers.{grown-insert, name-found, magnitude, negative-is, nonnegative-is}
 use Rattle.std.proofs.lemmas.Bool.Decides.{Decides-eqb}
 use lib.Signed.{lt_z}

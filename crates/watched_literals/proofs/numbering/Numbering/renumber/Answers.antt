@@ -3,7 +3,7 @@ use Rattle.std.proofs.lemmas.Int.{to_z-of_z}
 use Rattle.std.specs.List.{All}
 use Rattle.std.proofs.lemmas.List.{take_more, map-append}
 use Rattle.std.proofs.lemmas.List.Elements.{All-push}
-use Rattle.watched_literals.specs.Numbers.{behind, IsNumbered}
+use Rattle.watched_literals.specs.Prelude.{behind, IsNumbered}
 use Rattle.watched_literals.proofs.Numbers.{grown-on, all-longer, map-longer}
 use Rattle.watched_literals.proofs.numbering.Numbering.renumber.Goals as goal
 

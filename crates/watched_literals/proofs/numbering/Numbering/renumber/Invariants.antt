@@ -1,6 +1,6 @@
 use Rattle.std.proofs.Common.{◌≡◌, map, take}
 use Rattle.std.specs.List.{All}
-use Rattle.watched_literals.specs.Numbers.{Grown, IsNumbered, behind}
+use Rattle.watched_literals.specs.Prelude.{Grown, IsNumbered, behind}
 use Rattle.watched_literals.proofs.numbering.Numbering.renumber.Given as goal
 
 abbrev pub invariant-loop-literal : goal.invariant-loop-literal

@@ -2,7 +2,7 @@ use Rattle.std.proofs.Common.{◌++◌, ◌∷◌, [], map, take, sym, subst, ap
 use Rattle.std.specs.List.{All}
 use Rattle.std.proofs.lemmas.List.{take_more, map-append, get_or_read}
 use Rattle.std.proofs.lemmas.List.Elements.{All-push}
-use Rattle.watched_literals.specs.Numbers.{behind, IsNumbered}
+use Rattle.watched_literals.specs.Prelude.{behind, IsNumbered}
 use Rattle.watched_literals.proofs.Numbers.{grown-on, clauses-longer, map-clauses}
 use Rattle.watched_literals.proofs.numbering.Numbering.renumber_all.Goals as goal
 

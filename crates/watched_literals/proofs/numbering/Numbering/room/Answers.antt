@@ -1,5 +1,5 @@
 use Rattle.std.proofs.Common.{◌≤◌, ◌<◌, ◌^◌, min, length, arith}
-use Rattle.word_kit.specs.Formulas.{variable}
+use Rattle.word_kit.specs.Prelude.{variable}
 use Rattle.watched_literals.proofs.Numbers.{within-of}
 use Rattle.watched_literals.proofs.numbering.Numbering.room.Goals as goal
 

@@ -1,11 +1,8 @@
 use Rattle.std.proofs.Common.{◌++◌, ◌∷◌, pos, [], cond, take, sym, subst, ◌∙◌}
 use Rattle.std.proofs.lemmas.List.Elements.{All-contains}
-use Rattle.watched_literals.specs.Propagation.{HasConflict}
+use Rattle.watched_literals.specs.Prelude.{HasConflict, IsWithin, AreReasoned, IsStore, AllWatched, Propagates, IsOpen}
 use Rattle.watched_literals.proofs.Trails.{tested}
-use Rattle.watched_literals.specs.Literals.{IsWithin, AreReasoned}
 use Rattle.watched_literals.proofs.Reasons.{reasoned-none, reasoned-longer}
-use Rattle.watched_literals.specs.Watches.{IsStore, AllWatched, Propagates}
-use Rattle.watched_literals.specs.Propagators.{IsOpen}
 use Rattle.watched_literals.proofs.Knowing.{open-of, of-open, refuted-of, of-refuted, added-true, added-open, added-unit, added-false, added-refuted, watched-front}
 use Rattle.watched_literals.proofs.propagator.Propagator.add.Goals as goal
 

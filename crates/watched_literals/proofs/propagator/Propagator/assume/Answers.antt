@@ -1,8 +1,6 @@
 use Rattle.std.proofs.Common.{◌∷◌, [], take, sym, subst, ◌∙◌}
 use Rattle.watched_literals.proofs.Trails.{tested, extends-on}
-use Rattle.watched_literals.specs.Literals.{AreReasoned}
-use Rattle.watched_literals.specs.Watches.{AllWatched, Propagates}
-use Rattle.watched_literals.specs.Propagators.{IsOpen, Spreads}
+use Rattle.watched_literals.specs.Prelude.{AreReasoned, AllWatched, Propagates, IsOpen, Spreads}
 use Rattle.watched_literals.proofs.Reasons.{reasoned-none}
 use Rattle.watched_literals.proofs.Knowing.{watched-front, above-more, assumed-above, assumed-spreads}
 use Rattle.watched_literals.proofs.propagator.Propagator.assume.Goals as goal

@@ -1,10 +1,7 @@
 use Rattle.std.proofs.Common.{[], sym, subst, ◌∙◌}
-use Rattle.watched_literals.specs.Propagation.{HasConflict}
+use Rattle.watched_literals.specs.Prelude.{HasConflict, AreReasoned, AllWatched, IsOpen, IsTried}
 use Rattle.watched_literals.proofs.Trails.{follows-refuted}
-use Rattle.watched_literals.specs.Literals.{AreReasoned}
 use Rattle.watched_literals.proofs.Reasons.{reasoned-take}
-use Rattle.watched_literals.specs.Watches.{AllWatched}
-use Rattle.watched_literals.specs.Propagators.{IsOpen, IsTried}
 use Rattle.watched_literals.proofs.Knowing.{open-of, of-open, refuted-of, tried-verdict, tried-back}
 use Rattle.watched_literals.proofs.propagator.Propagator.follows.Goals as goal
 

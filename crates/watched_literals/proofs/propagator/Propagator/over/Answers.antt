@@ -1,6 +1,6 @@
 use Rattle.std.proofs.Common.{◌++◌, ◌∷◌, [], take, sym, subst, ap, ◌∙◌}
 use Rattle.std.proofs.lemmas.List.{take_more, take_all, get_or_read}
-use Rattle.watched_literals.specs.Propagators.{IsReady}
+use Rattle.watched_literals.specs.Prelude.{IsReady}
 use Rattle.watched_literals.proofs.propagator.Propagator.over.Goals as goal
 
 pub loop-place-preserved : goal.loop-place-preserved

@@ -1,5 +1,5 @@
 use Rattle.std.proofs.Common.{◌≡◌, take}
-use Rattle.watched_literals.specs.Propagators.{IsReady}
+use Rattle.watched_literals.specs.Prelude.{IsReady}
 use Rattle.watched_literals.proofs.propagator.Propagator.over.Given as goal
 
 abbrev pub invariant-loop-place : goal.invariant-loop-place

@@ -1,5 +1,5 @@
 use Rattle.std.proofs.Common.{◌++◌, false, set, sym, subst, ap, ◌∙◌, option_to_list}
-use Rattle.watched_literals.specs.Literals.{IsTruth}
+use Rattle.watched_literals.specs.Prelude.{IsTruth}
 use Rattle.watched_literals.proofs.Truths.{truth-pop}
 use Rattle.watched_literals.proofs.trail.Trail.pop.Goals as goal
 

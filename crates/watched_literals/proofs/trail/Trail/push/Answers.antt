@@ -1,7 +1,7 @@
 use Rattle.std.proofs.Common.{◌≡◌, ◌++◌, ◌∷◌, [], true, false, set, sym, subst}
 use Rattle.std.specs.List.{list_any}
 use Rattle.std.specs.Ordering.{int_eq}
-use Rattle.watched_literals.specs.Literals.{IsTruth, IsWithin}
+use Rattle.watched_literals.specs.Prelude.{IsTruth, IsWithin}
 use Rattle.watched_literals.proofs.Truths.{truth-push}
 use Rattle.watched_literals.proofs.trail.Trail.push.Goals as goal
 

@@ -1,6 +1,6 @@
 use Rattle.std.proofs.Common.{◌<◌, length, refl, sym, subst, ◌∙◌, arith}
 use Rattle.std.proofs.lemmas.Bool.{false≢true}
-use Rattle.watched_literals.specs.Watches.{Visits}
+use Rattle.watched_literals.specs.Prelude.{Visits}
 use Rattle.watched_literals.proofs.Watching.{moves-on, rises-on, rises-keeps, rises-longer, watched-more, watched-all, fails-risen}
 use Rattle.watched_literals.proofs.watches.Watches.propagate.Goals as goal
 

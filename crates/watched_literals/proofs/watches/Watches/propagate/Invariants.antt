@@ -1,7 +1,5 @@
 use Rattle.std.proofs.Common.{◌≡◌, ◌≤◌, ◌+◌, ◌-◌, [], pos, take, length}
-use Rattle.watched_literals.specs.Trails.{unset}
-use Rattle.watched_literals.specs.Literals.{AreReasoned}
-use Rattle.watched_literals.specs.Watches.{IsStore, Moves, Rises, AllWatched}
+use Rattle.watched_literals.specs.Prelude.{unset, AreReasoned, IsStore, Moves, Rises, AllWatched}
 use Rattle.watched_literals.proofs.watches.Watches.propagate.Given as goal
 
 abbrev pub invariant-loop-visited : goal.invariant-loop-visited

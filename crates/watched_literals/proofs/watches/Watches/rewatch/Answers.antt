@@ -3,8 +3,7 @@ use Rattle.std.specs.List.{All, Contains, list_any}
 use Rattle.std.specs.Ordering.{int_eq}
 use Rattle.std.proofs.lemmas.List.Elements.{All-contains}
 use Rattle.watched_literals.proofs.Trails.{listed, unlisted}
-use Rattle.watched_literals.specs.Literals.{IsWithin}
-use Rattle.watched_literals.specs.Watches.{Rewatches}
+use Rattle.watched_literals.specs.Prelude.{IsWithin, Rewatches}
 use Rattle.watched_literals.proofs.Watching.{inside-of, watch-read, watch-within, watch-apart, opposite-within, clause-read, rewatch-true, rewatch-move, rewatch-false, rewatch-unit, unit-of}
 use Rattle.watched_literals.proofs.Reasons.{reasoned-unit}
 use Rattle.watched_literals.proofs.watches.Watches.rewatch.Goals as goal

@@ -1,8 +1,7 @@
 use Rattle.std.proofs.Common.{◌≡◌, ◌<◌, ◌++◌, ◌∷◌, [], pos, neg_ℤ, false, length, length-append, append-nil, refl, sym, subst, ap, ◌∙◌, arith}
 use Rattle.std.proofs.Math.IntN.{neg_ℤ-neg_ℤ}
 use Rattle.std.specs.List.{Contains}
-use Rattle.watched_literals.specs.Literals.{code}
-use Rattle.watched_literals.specs.Watches.{IsStore, Rewatches, Visits}
+use Rattle.watched_literals.specs.Prelude.{code, IsStore, Rewatches, Visits}
 use Rattle.watched_literals.proofs.Watching.{IsVisiting, inside-of, rises-keeps, visiting-begin, visiting-more, visits-ended, visits-done}
 use Rattle.watched_literals.proofs.watches.Watches.visit.Goals as goal
 

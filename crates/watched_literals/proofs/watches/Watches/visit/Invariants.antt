@@ -1,5 +1,5 @@
 use Rattle.std.proofs.Common.{◌≡◌, length}
-use Rattle.watched_literals.specs.Literals.{AreReasoned}
+use Rattle.watched_literals.specs.Prelude.{AreReasoned}
 use Rattle.watched_literals.proofs.Watching.{IsVisiting}
 use Rattle.watched_literals.proofs.watches.Watches.visit.Given as goal
 
