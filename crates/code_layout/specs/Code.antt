@@ -1,5 +1,5 @@
 -- The items of a block, and their bytes. This project's own.
-use Rattle.std.specs.Prelude.{ℕ, ◌+◌, ◌-◌, ◌%◌, ◌^◌, ◌==◌, List, [], ◌∷◌, ◌++◌, map, length, Option, None, Some, if◌then◌else◌}
+use Rattle.std.specs.Prelude.{ℕ, ◌+◌, ◌-◌, ◌%◌, ◌^◌, List, [], ◌∷◌, ◌++◌, map, length, Option, None, Some, if◌then◌else◌}
 use Rattle.ia_codec.specs.Reading.{condition_of_number}
 use Rattle.machines.specs.Prelude.{Instr, spelling, Op, Jcc, Jmp, JmpTo, Base, eax, Condition, NotBelow, Map, behind as next_address}
 pub use Rattle.reg_map.specs.Relocated.{operand_at, op_at, IsPlaceable}

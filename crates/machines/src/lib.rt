@@ -11,6 +11,5 @@ pub use examples::{
 };
 pub use laws::{
     agrees_if_narrowly, clean_reads_no_code, codes_are_unique, guest_keeps_calls, guest_stays_over,
-    host_keeps_calls, host_stays_over, host_uses_first_choices, readings_are_one,
-    readings_exist,
+    host_keeps_calls, host_stays_over, host_uses_first_choices, readings_are_one, readings_exist,
 };

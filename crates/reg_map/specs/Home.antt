@@ -1,7 +1,7 @@
 -- The home page, this project's own: where each location stands when no register of the host holds it.
 -- Offsets count from the page's start. A location is its number: GPR g is g, LR is 32, CTR 33, CR field f is 34 + f,
 -- and CA, SO, OV and the byte count XC of XER are 42 to 45.
-use Rattle.std.specs.Prelude.{◌≡◌, ◌≢◌, ℕ, ◌+◌, ◌*◌, ◌<◌, ◌^◌, Bool, cond, ltb}
+use Rattle.std.specs.Prelude.{◌≢◌, ℕ, ◌+◌, ◌*◌, ◌<◌, ◌^◌, Bool, cond, ltb}
 
 -- the home word of GPR g
 abbrev pub gpr_home : ℕ → ℕ

@@ -1,5 +1,5 @@
 -- What a written file lays out in memory, and where a run of it begins. This project's own.
-use Rattle.std.specs.Prelude.{◌≡◌, ℕ, ◌+◌, ◌<◌, ◌≤◌, true, false, List, [], ◌∷◌, ◌++◌, length, get_or}
+use Rattle.std.specs.Prelude.{◌≡◌, ℕ, ◌+◌, ◌<◌, ◌≤◌, true, false, List, length, get_or}
 use Rattle.machines.specs.Prelude.{Program, Rights, Code, rights_of, code_of, first_bytes, guest_start, Choice, host_start, without}
 use Rattle.elf_load.specs.Prelude.{IsArea}
 use Rattle.reg_map.specs.Prelude.{IsHomePage, HasSegments}
