@@ -2,10 +2,9 @@
 use Rattle.std.proofs.Common.{◌≡◌, ℕ, ◌+◌, ◌<◌, ◌≤◌, List, [], ◌∷◌, ◌++◌, length, Option, Some, None, sym, subst, inl, inr, arith}
 use Rattle.std.specs.List.{All, Contains}
 use Rattle.std.proofs.lemmas.List.Elements.{All-take, Contains-append_left, Contains-append_right, Contains-append_cases, Contains-get_or}
-use Rattle.ppc_isa.specs.declared.map.Map.{Map}
-use Rattle.ppc_isa.specs.Map.{IsMap, IsHeld}
+use Rattle.machines.specs.Prelude.{Map, IsMap, IsHeld}
 use Rattle.reg_map.specs.Place.{IsEmpty}
-use Rattle.plan_form.specs.Maps.{IsContentOf, IsMapOver}
+use Rattle.plan_form.specs.Prelude.{IsContentOf, IsMapOver}
 use Rattle.offer_make.specs.Candidates.{held, held_by, firsts}
 use Rattle.offer_make.proofs.Elements.{none, first, single}
 use Rattle.offer_make.proofs.Firsts.{six_of, six-of-few, firsts-to}

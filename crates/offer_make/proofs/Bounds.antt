@@ -3,34 +3,11 @@
 use Rattle.std.proofs.Common.{◌≡◌, ℕ, zero, suc, ◌+◌, ◌-◌, ◌*◌, ◌<◌, ◌≤◌, ◌==◌, Bool, true, false, List, [], ◌∷◌, ◌++◌, length, if◌then◌else◌, Option, Some, None, refl, arith}
 use Rattle.std.specs.List.{sum_by}
 use Rattle.std.proofs.lemmas.List.Sums.{sum_by-cons}
-use Rattle.word_kit.specs.Bits.{mask, bit_of}
-use Rattle.ppc_isa.specs.declared.map.Map.{Map}
-use Rattle.ppc_isa.specs.declared.instr.Instr.{Instr}
-use Rattle.ppc_isa.specs.declared.instr.Instr.TheVariants.{Immediate, LogicImmediate, Load, Store, LoadUpdate, StoreUpdate, Multiple, CompareImmediate, Rotate, Arithmetic, ArithmeticUnary, Logic, ShiftImmediate, LogicUnary, Compare, MoveFromCr, MoveToCr, MoveFromSpr, MoveToSpr, LoadIndexed, StoreIndexed, LoadIndexedUpdate, StoreIndexedUpdate, MoveCrField, CrLogic}
-use Rattle.ppc_isa.specs.declared.instr.MultipleOp.TheVariants.{Lmw, Stmw}
-use Rattle.ppc_isa.specs.declared.instr.RotateOp.TheVariants.{Rlwinm, Rlwnm, Rlwimi}
-use Rattle.ppc_isa.specs.declared.instr.ImmediateOp.{ImmediateOp}
-use Rattle.ppc_isa.specs.declared.instr.ImmediateOp.TheVariants.{Addi, Addis, Addic, AddicRecord, Subfic, Mulli}
-use Rattle.ppc_isa.specs.declared.instr.ArithmeticOp.{ArithmeticOp}
+use Rattle.machines.specs.Prelude.{mask, bit_of, Map, Instr, Immediate, LogicImmediate, Load, Store, LoadUpdate, StoreUpdate, Multiple, CompareImmediate, Rotate, Arithmetic, ArithmeticUnary, Logic, ShiftImmediate, LogicUnary, Compare, MoveFromCr, MoveToCr, MoveFromSpr, MoveToSpr, LoadIndexed, StoreIndexed, LoadIndexedUpdate, StoreIndexedUpdate, MoveCrField, CrLogic, Lmw, Stmw, Rlwinm, Rlwnm, Rlwimi, ImmediateOp, Addi, Addis, Addic, AddicRecord, Subfic, Mulli, ArithmeticOp, ArithmeticUnaryOp, LogicOp, LogicUnaryOp, Cntlzw, Extsb, Extsh, Cmpi, Cmpli, CrLogicOp, Crand, Cror, Crxor, Crnand, Crnor, Creqv, Crandc, Crorc, LoadOp as LoadForm, LoadUpdateOp, LoadIndexedOp, LoadIndexedUpdateOp, StoreOp as StoreForm, StoreUpdateOp, StoreIndexedOp, StoreIndexedUpdateOp, Operand, Reg, Abs, Base, Pair, Not, Neg, Mul, Imul1, Div, Idiv, Op, AluTo, AluFrom, AluImm, TestReg, TestImm, Unary, Imul, MovTo, MovFrom, MovToImm, MovHalfTo, MovByteTo, MovByteFrom, Shift, ShiftByCl, Extend, Set, Cmov, Bsr, JmpTo, cost_of, immediate_records, logic_immediate_records}
 use Rattle.ppc_isa.specs.declared.instr.ArithmeticOp.TheVariants as arithmetic
-use Rattle.ppc_isa.specs.declared.instr.ArithmeticUnaryOp.{ArithmeticUnaryOp}
 use Rattle.ppc_isa.specs.declared.instr.ArithmeticUnaryOp.TheVariants as unary
-use Rattle.ppc_isa.specs.declared.instr.LogicOp.{LogicOp}
 use Rattle.ppc_isa.specs.declared.instr.LogicOp.TheVariants as logic
-use Rattle.ppc_isa.specs.declared.instr.LogicUnaryOp.{LogicUnaryOp}
-use Rattle.ppc_isa.specs.declared.instr.LogicUnaryOp.TheVariants.{Cntlzw, Extsb, Extsh}
-use Rattle.ppc_isa.specs.declared.instr.CompareImmediateOp.TheVariants.{Cmpi, Cmpli}
 use Rattle.ppc_isa.specs.declared.instr.CompareOp.TheVariants as registers
-use Rattle.ppc_isa.specs.declared.instr.CrLogicOp.{CrLogicOp}
-use Rattle.ppc_isa.specs.declared.instr.CrLogicOp.TheVariants.{Crand, Cror, Crxor, Crnand, Crnor, Creqv, Crandc, Crorc}
-use Rattle.ppc_isa.specs.declared.instr.LoadOp.{LoadOp as LoadForm}
-use Rattle.ppc_isa.specs.declared.instr.LoadUpdateOp.{LoadUpdateOp}
-use Rattle.ppc_isa.specs.declared.instr.LoadIndexedOp.{LoadIndexedOp}
-use Rattle.ppc_isa.specs.declared.instr.LoadIndexedUpdateOp.{LoadIndexedUpdateOp}
-use Rattle.ppc_isa.specs.declared.instr.StoreOp.{StoreOp as StoreForm}
-use Rattle.ppc_isa.specs.declared.instr.StoreUpdateOp.{StoreUpdateOp}
-use Rattle.ppc_isa.specs.declared.instr.StoreIndexedOp.{StoreIndexedOp}
-use Rattle.ppc_isa.specs.declared.instr.StoreIndexedUpdateOp.{StoreIndexedUpdateOp}
 use Rattle.ppc_isa.specs.declared.instr.LoadOp.TheVariants as load
 use Rattle.ppc_isa.specs.declared.instr.LoadUpdateOp.TheVariants as load_update
 use Rattle.ppc_isa.specs.declared.instr.LoadIndexedOp.TheVariants as load_indexed
@@ -39,14 +16,8 @@ use Rattle.ppc_isa.specs.declared.instr.StoreOp.TheVariants as store
 use Rattle.ppc_isa.specs.declared.instr.StoreUpdateOp.TheVariants as store_update
 use Rattle.ppc_isa.specs.declared.instr.StoreIndexedOp.TheVariants as store_indexed
 use Rattle.ppc_isa.specs.declared.instr.StoreIndexedUpdateOp.TheVariants as store_indexed_update
-use Rattle.ia_codec.specs.declared.op.Operand.{Operand}
-use Rattle.ia_codec.specs.declared.op.Operand.TheVariants.{Reg, Abs, Base, Pair}
-use Rattle.ia_codec.specs.declared.op.UnaryOp.TheVariants.{Not, Neg, Mul, Imul1, Div, Idiv}
-use Rattle.ia_codec.specs.declared.op.Op.{Op}
-use Rattle.ia_codec.specs.declared.op.Op.TheVariants.{AluTo, AluFrom, AluImm, TestReg, TestImm, Unary, Imul, MovTo, MovFrom, MovToImm, MovHalfTo, MovByteTo, MovByteFrom, Shift, ShiftByCl, Extend, Set, Cmov, Bsr, JmpTo}
-use Rattle.ia_codec.specs.Cost.{cost_of, in_memory, memory_operands, work}
-use Rattle.reg_map.specs.Place.{slot_of, place_in}
-use Rattle.reg_map.specs.Spelled.{mov_from, alu_from}
+use Rattle.ia_codec.specs.Cost.{in_memory, memory_operands, work}
+use Rattle.reg_map.specs.Prelude.{slot_of, place_in, mov_from, alu_from}
 use Rattle.symbolic_tiles.specs.declared.flow_op.FlowOp.{FlowOp}
 use Rattle.symbolic_tiles.specs.declared.flow_op.FlowOp.TheVariants.{Plain, Jump, Mark, Edge, Leap}
 use Rattle.symbolic_tiles.specs.declared.symbolic_op.SymbolicOperand.{SymbolicOperand}
@@ -54,10 +25,7 @@ use Rattle.symbolic_tiles.specs.declared.symbolic_op.SymbolicOperand.TheVariants
 use Rattle.symbolic_tiles.specs.declared.symbolic_op.AccessSize.TheVariants.{Byte, Half, Word}
 use Rattle.symbolic_tiles.specs.declared.symbolic_op.SymbolicOp.{SymbolicOp}
 use Rattle.symbolic_tiles.specs.declared.symbolic_op.SymbolicOp.TheVariants.{Mov, MovImmediate, Put, PutImmediate, Alu, AluImmediate, Test, TestImmediate, Invert, Negate, Multiply, MultiplyWide, Divide, ShiftBy, ShiftCl, Widen, SwapBytes, MoveIf, Scan, Signs, FetchByte, PutByte, SetByte, Load as LoadOp, Store as StoreOp}
-use Rattle.symbolic_tiles.specs.SymbolicOps.{operand_of, wide_op, op_of, ops_of}
-use Rattle.symbolic_tiles.specs.Tiles.{most_bytes, room_of}
-use Rattle.symbolic_tiles.specs.Recording.{record_ops}
-use Rattle.ppc_isa.specs.Locations.{immediate_records, logic_immediate_records}
+use Rattle.symbolic_tiles.specs.Prelude.{operand_of, wide_op, op_of, ops_of, most_bytes, room_of, record_ops}
 use Rattle.base_alu.specs.Immediates.{base_ops, immediate_ops, logic_immediate_ops}
 use Rattle.base_alu.specs.Shifts.{srawi_ops, rlwinm_ops, rlwnm_ops, rlwimi_ops}
 use Rattle.base_alu.specs.Arithmetic.{arithmetic_ops, unary_ops}

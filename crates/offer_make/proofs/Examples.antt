@@ -1,6 +1,6 @@
 -- The definitions of prices compute the examples.
 use Rattle.std.proofs.Common.{refl}
-use Rattle.base_flow.specs.SystemCall.{selection_items, request_items, answer_items, success_items, failure_items, error_items, done_items}
+use Rattle.base_flow.specs.Prelude.{selection_items, request_items, answer_items, success_items, failure_items, error_items, done_items}
 use Rattle.offer_make.specs.Examples.{PricesCompute}
 
 pub prices-compute : PricesCompute

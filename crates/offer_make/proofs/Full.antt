@@ -2,18 +2,16 @@
 use Rattle.std.proofs.Common.{◌≡◌, ◌⊎◌, inl, inr, ℕ, ◌+◌, ◌<◌, ◌≤◌, ◌==◌, ◌&&◌, ◌||◌, not, Bool, true, false, List, [], length, get_or, map, filter, Option, Some, None, if◌then◌else◌, refl, sym, subst, ap, ◌∙◌, arith}
 use Rattle.std.specs.List.{All, Contains, flat_map, range_with_len}
 use Rattle.std.proofs.lemmas.Bool.Decides.{nat_tests}
-use Rattle.ppc_isa.specs.declared.map.Map.{Map}
-use Rattle.ppc_isa.specs.declared.instr.Instr.{Instr}
+use Rattle.machines.specs.Prelude.{Map, Instr}
 use Rattle.reg_map.specs.declared.moves.Move.{Move}
 use Rattle.reg_map.specs.declared.moves.Move.TheVariants.{Drop, Take}
-use Rattle.reg_map.specs.Moves.{moved_gpr, move_op, is_live, PossibleMovesMoveOne}
+use Rattle.reg_map.specs.Prelude.{moved_gpr, move_op, is_live, PossibleMovesMoveOne}
 use Rattle.plan_form.specs.declared.problem.Problem.{Problem}
 use Rattle.plan_form.specs.declared.problem.Tile.TheVariants.{Base}
 use Rattle.plan_form.specs.declared.problem.Offer.{Offer}
 use Rattle.plan_form.specs.declared.problem.MovePrice.{MovePrice}
-use Rattle.plan_form.specs.Maps.{IsMapOver}
-use Rattle.plan_form.specs.Plans.{last}
-use Rattle.plan_form.specs.Full.{IsMove, IsOffer, IsFull}
+use Rattle.plan_form.specs.Prelude.{IsMapOver, last, IsFull}
+use Rattle.plan_form.specs.Full.{IsMove, IsOffer}
 use Rattle.offer_make.specs.Maps.{AreMapsOver}
 use Rattle.offer_make.specs.Prices.{code_cost, move_price, base_price}
 use Rattle.offer_make.specs.Tables.{may_move, moves_between, priced_at, moves_of, is_same_content, is_same_map, may_lie, offers_of, word_address, base_tiles}

@@ -2,13 +2,11 @@
 use Rattle.std.proofs.Common.{◌≡◌, ◌≢◌, inl, inr, ℕ, zero, suc, ◌<◌, Bool, true, false, not, ◌&&◌, List, map, filter, Option, Some, None, refl, subst, arith}
 use Rattle.std.specs.List.{All, Contains, flat_map}
 use Rattle.std.proofs.lemmas.List.Elements.{All-contains, Contains-append_left, Contains-append_right, Contains-append_cases}
-use Rattle.ppc_isa.specs.declared.map.Map.{Map}
-use Rattle.ppc_isa.specs.Map.{IsMap}
+use Rattle.machines.specs.Prelude.{Map, IsMap}
 use Rattle.reg_map.specs.declared.moves.Move.{Move}
 use Rattle.reg_map.specs.declared.moves.Move.TheVariants.{Drop, Take}
-use Rattle.reg_map.specs.Moves.{content, moved, IsPossible}
-use Rattle.reg_map.specs.Place.{slot_of}
-use Rattle.plan_form.specs.Maps.{IsMapOver}
+use Rattle.reg_map.specs.Prelude.{content, moved, IsPossible, slot_of}
+use Rattle.plan_form.specs.Prelude.{IsMapOver}
 use Rattle.plan_form.specs.declared.problem.MovePrice.{MovePrice}
 use Rattle.offer_make.specs.Tables.{is_empty, may_move, slots, all_moves, moves_between}
 use Rattle.offer_make.proofs.Elements.{flat_map-from, flat_map-to, map-from, map-to, filter-from, filter-to, range-from, range-to}

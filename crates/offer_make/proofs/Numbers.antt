@@ -6,9 +6,9 @@ use Rattle.std.proofs.lemmas.Bool.Decides.{nat_tests}
 use Rattle.std.proofs.lemmas.List.{get_or_append_left, get_or_at, length_push}
 use Rattle.std.proofs.lemmas.List.Elements.{All-contains, Contains-append_left, Contains-append_cases, Contains-push, Contains-get_or}
 use Rattle.std.proofs.lemmas.List.Sums.{position_or_len_is, passes_at_first, fails_before_first}
-use Rattle.ppc_isa.specs.declared.map.Map.{Map}
-use Rattle.ppc_isa.specs.Map.{IsHeld, AreApart}
-use Rattle.plan_form.specs.Maps.{IsContentOf, IsMapOver, content_number, map_number}
+use Rattle.machines.specs.Prelude.{Map, IsHeld}
+use Rattle.ppc_isa.specs.Map.{AreApart}
+use Rattle.plan_form.specs.Prelude.{IsContentOf, IsMapOver, content_number, map_number}
 use Rattle.offer_make.specs.Maps.{content_of, AreMapsOver}
 
 same : (g h : ℕ) → (g == h) ≡ true → g ≡ h

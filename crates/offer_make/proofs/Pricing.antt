@@ -2,18 +2,13 @@
 use Rattle.std.proofs.Common.{◌≡◌, ℕ, ◌<◌, Bool, true, false, Some, None, if◌then◌else◌, refl, sym, subst, arith}
 use Rattle.std.specs.List.{sum_by}
 use Rattle.std.proofs.lemmas.Bool.{false≢true}
-use Rattle.ppc_isa.specs.declared.map.Map.{Map}
-use Rattle.ppc_isa.specs.declared.instr.Instr.{Instr}
-use Rattle.ppc_isa.specs.declared.instr.Instr.TheVariants.{Load, Store, LoadUpdate, StoreUpdate, Multiple, TrapImmediate, Branch, BranchConditional, SystemCall, Trap, LoadIndexed, StoreIndexed, LoadIndexedUpdate, StoreIndexedUpdate, BranchRegister}
-use Rattle.ppc_isa.specs.Legal.{IsLegal}
-use Rattle.ia_codec.specs.Cost.{cost_of}
+use Rattle.machines.specs.Prelude.{Map, Instr, Load, Store, LoadUpdate, StoreUpdate, Multiple, TrapImmediate, Branch, BranchConditional, SystemCall, Trap, LoadIndexed, StoreIndexed, LoadIndexedUpdate, StoreIndexedUpdate, BranchRegister, IsLegal, cost_of}
 use Rattle.row_laws.specs.FlowWords.{is_flow}
 use Rattle.base_alu.specs.Tile.{IsBuilt as IsBuiltAlu, tile as alu_ops}
 use Rattle.base_alu.specs.Laws.{TilesAreTiles as AluTilesAreTiles}
 use Rattle.base_mem.specs.Tile.{has_access, tile as access_ops}
 use Rattle.base_mem.specs.Laws.{TilesAreTiles as AccessTilesAreTiles}
-use Rattle.base_flow.specs.Tile.{tile as flow_tile, LeavesEbx}
-use Rattle.base_flow.specs.Laws.{FlowTilesAreMarked}
+use Rattle.base_flow.specs.Prelude.{tile as flow_tile, LeavesEbx, FlowTilesAreMarked}
 use Rattle.offer_make.specs.Prices.{item_cost, straight_tile, base_price, BasePricesAreLow}
 use Rattle.offer_make.proofs.Bounds.{alu_low, access_low, items_low}
 

@@ -4,16 +4,11 @@ use Rattle.std.specs.Prelude.{slice_index}
 use Rattle.std.specs.List.{All}
 use Rattle.std.proofs.lemmas.Bool.{cases_lt, false≢true}
 use Rattle.std.proofs.lemmas.List.Elements.{Contains-get_or}
-use Rattle.ppc_isa.specs.declared.map.Map.{Map}
-use Rattle.ppc_isa.specs.declared.instr.Instr.{Instr}
-use Rattle.ppc_isa.specs.declared.instr.Instr.TheVariants.{SystemCall}
-use Rattle.ppc_isa.specs.Map.{IsMap}
-use Rattle.ppc_isa.specs.Legal.{HasOneInstruction}
-use Rattle.reg_map.specs.Moves.{IsPossible}
+use Rattle.machines.specs.Prelude.{Map, Instr, SystemCall, IsMap, HasOneInstruction}
+use Rattle.reg_map.specs.Prelude.{IsPossible}
 use Rattle.row_laws.specs.FlowWords.{is_flow}
 use Rattle.block_find.specs.declared.block.Block.{Block}
-use Rattle.block_find.specs.Branches.{IsFlowWord, legal}
-use Rattle.block_find.specs.Laws.{IsBlockAt}
+use Rattle.block_find.specs.Prelude.{IsFlowWord, legal, IsBlockAt}
 use Rattle.plan_form.specs.declared.problem.MovePrice.{MovePrice}
 use Rattle.offer_make.specs.Maps.{AreMapsOver}
 use Rattle.offer_make.specs.Prices.{base_price, HasBaseTile, HaveBaseTiles, BasePricesAreLow}

@@ -1,9 +1,6 @@
 -- The GPRs that a block's maps may hold, this project's own: its candidates, in their order.
 use Rattle.std.specs.Prelude.{◌≡◌, ◌⊎◌, ◌↔◌, ℕ, suc, ◌<◌, ◌==◌, not, List, [], ◌∷◌, ◌++◌, Bool, true, false, Option, Some, None, Contains, AllPairs, filter, take}
-use Rattle.ppc_isa.specs.declared.instr.Instr.{Instr}
-use Rattle.ppc_isa.specs.declared.map.Map.{Map}
-use Rattle.ppc_isa.specs.Legal.{IsWordOf}
-use Rattle.ppc_isa.specs.Locations.{locations_read, locations_written}
+use Rattle.machines.specs.Prelude.{Instr, Map, IsWordOf, locations_read, locations_written}
 
 -- the word reads or writes the GPR; an illegal word does neither
 pub record Uses (word g : ℕ) : Type 0 where

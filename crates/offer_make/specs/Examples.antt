@@ -1,10 +1,6 @@
 -- Some prices and moves, worked out by hand.
 use Rattle.std.specs.Prelude.{◌≡◌, ℕ, ◌^◌, false, [], ◌∷◌, Some, None}
-use Rattle.ppc_isa.specs.declared.map.Map.{Map}
-use Rattle.ppc_isa.specs.declared.instr.Instr.TheVariants.{Immediate, CompareImmediate, BranchConditional, BranchRegister, SystemCall}
-use Rattle.ppc_isa.specs.declared.instr.ImmediateOp.TheVariants.{Addi}
-use Rattle.ppc_isa.specs.declared.instr.CompareImmediateOp.TheVariants.{Cmpi}
-use Rattle.ppc_isa.specs.declared.instr.BranchRegisterOp.TheVariants.{Bclr}
+use Rattle.machines.specs.Prelude.{Map, Immediate, CompareImmediate, BranchConditional, BranchRegister, SystemCall, Addi, Cmpi, Bclr}
 use Rattle.reg_map.specs.declared.moves.Move.{Move}
 use Rattle.reg_map.specs.declared.moves.Move.TheVariants.{Drop, Take}
 use Rattle.plan_form.specs.declared.problem.MovePrice.{MovePrice}

@@ -1,8 +1,8 @@
 -- The maps over some candidates, and contents of slots by their numbers.
 use Rattle.std.specs.Prelude.{ℕ, zero, suc, ◌<◌, ◌↔◌, List, Contains, AllPairs, slice_index_or, Option, Some, None}
-use Rattle.ppc_isa.specs.declared.map.Map.{Map}
+use Rattle.machines.specs.Prelude.{Map}
 pub use Rattle.ppc_isa.specs.Map.{AreApart}
-use Rattle.plan_form.specs.Maps.{IsMapOver, map_number}
+use Rattle.plan_form.specs.Prelude.{IsMapOver, map_number}
 
 -- the maps over the candidates, in order
 pub record AreMapsOver (candidates : List ℕ) (maps : List Map) : Type 0 where

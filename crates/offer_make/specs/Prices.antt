@@ -1,20 +1,16 @@
 -- What the steps of a block's plans cost, this project's own: the sum of what the ops cost.
 use Rattle.std.specs.Prelude.{◌≡◌, ℕ, ◌+◌, ◌<◌, List, length, slice_index_or, Option, Some, None, if◌then◌else◌}
 use Rattle.std.specs.List.{sum_by}
-use Rattle.ppc_isa.specs.declared.map.Map.{Map}
-use Rattle.ppc_isa.specs.declared.instr.Instr.{Instr}
-use Rattle.ppc_isa.specs.Legal.{IsLegal}
-use Rattle.ia_codec.specs.declared.op.Op.{Op}
-use Rattle.ia_codec.specs.Cost.{cost_of}
+use Rattle.machines.specs.Prelude.{Map, Instr, IsLegal, Op, cost_of}
 use Rattle.reg_map.specs.declared.moves.Move.{Move}
-use Rattle.reg_map.specs.Moves.{move_code}
+use Rattle.reg_map.specs.Prelude.{move_code}
 use Rattle.row_laws.specs.FlowWords.{is_flow}
 use Rattle.symbolic_tiles.specs.declared.flow_op.FlowOp.{FlowOp}
 use Rattle.symbolic_tiles.specs.declared.flow_op.FlowOp.TheVariants.{Plain, Jump, Mark, Edge, Leap}
-use Rattle.symbolic_tiles.specs.TileItems.{flows_of}
+use Rattle.symbolic_tiles.specs.Prelude.{flows_of}
 use Rattle.base_alu.specs.Tile.{tile as alu_tile}
 use Rattle.base_mem.specs.Tile.{has_access, tile as access_tile}
-use Rattle.base_flow.specs.Tile.{tile as flow_tile, illegal_items, LeavesEbx}
+use Rattle.base_flow.specs.Prelude.{tile as flow_tile, illegal_items, LeavesEbx}
 
 -- a move costs what its op does, and nothing where it has none
 abbrev pub code_cost : Option Op → ℕ

@@ -1,15 +1,10 @@
 -- The problem of a block: what its plans may do, and at which prices. This project's own.
 use Rattle.std.specs.Prelude.{◌≡◌, ℕ, ◌+◌, ◌-◌, ◌/◌, ◌<◌, Bool, true, false, IsTrue, List, length, slice_index, slice_index_or, Option, Some, None}
-use Rattle.ppc_isa.specs.declared.map.Map.{Map}
-use Rattle.ppc_isa.specs.Map.{IsMap}
-use Rattle.ppc_isa.specs.Legal.{IsWordOf}
-use Rattle.ppc_isa.specs.declared.instr.Instr.{Instr}
-use Rattle.ppc_isa.specs.declared.instr.Instr.TheVariants.{Branch, BranchConditional}
+use Rattle.machines.specs.Prelude.{Map, IsMap, IsWordOf, Instr, Branch, BranchConditional}
 use Rattle.reg_map.specs.Place.{IsEmpty}
 use Rattle.block_find.specs.declared.block.Block.{Block}
-use Rattle.block_find.specs.Branches.{IsFlowWord}
-use Rattle.block_find.specs.Laws.{IsBlockAt}
-use Rattle.liveness.specs.Live.{Sets, AreLive}
+use Rattle.block_find.specs.Prelude.{IsFlowWord, IsBlockAt}
+use Rattle.liveness.specs.Prelude.{Sets, AreLive}
 use Rattle.plan_form.specs.declared.problem.Problem.{Problem}
 use Rattle.offer_make.specs.Candidates.{AreCandidates}
 use Rattle.offer_make.specs.Maps.{AreMapsOver}

@@ -1,12 +1,10 @@
 -- The tables of a problem, in order: by place, then by map, then by step. This project's own.
 use Rattle.std.specs.Prelude.{ℕ, ◌+◌, ◌*◌, ◌%◌, ◌^◌, ◌==◌, ◌&&◌, ◌||◌, not, Bool, true, false, List, [], ◌∷◌, ◌++◌, map, filter, slice_index_or, Option, Some, None}
 use Rattle.std.specs.List.{flat_map, range_with_len}
-use Rattle.ppc_isa.specs.declared.map.Map.{Map}
-use Rattle.ppc_isa.specs.declared.instr.Instr.{Instr}
+use Rattle.machines.specs.Prelude.{Map, Instr}
 use Rattle.reg_map.specs.declared.moves.Move.{Move}
 use Rattle.reg_map.specs.declared.moves.Move.TheVariants.{Drop, Take}
-use Rattle.reg_map.specs.Moves.{content}
-use Rattle.reg_map.specs.Place.{slot_of}
+use Rattle.reg_map.specs.Prelude.{content, slot_of}
 use Rattle.plan_form.specs.declared.problem.Tile.TheVariants.{Base}
 use Rattle.plan_form.specs.declared.problem.Offer.{Offer}
 use Rattle.plan_form.specs.declared.problem.MovePrice.{MovePrice}

@@ -1,7 +1,7 @@
 //! The problem of a block.
 
 ghost use Rattle.std.specs.Prelude.{IfOk};
-ghost use Rattle.plan_form.specs.Full.{IsFull};
+ghost use Rattle.plan_form.specs.Prelude.{IsFull};
 ghost use Rattle.offer_make.specs.Problem.{IsBlockOf, AreBoundaryMaps, IsProblemOf};
 
 use crate::candidates::candidates;

@@ -2,9 +2,9 @@
 
 ghost use Rattle.std.specs.Prelude.{◌≡◌, ◌≢◌, ◌<◌, ◌≤◌, ◌-◌, ◌++◌, ◌↔◌, IsTrue, IfOk, OnOk, All, AllPairs, Contains, ℕ, ◌∷◌, [], length, filter, slice_index_or, ◌==◌, take, false};
 ghost use Rattle.std.specs.List.{range_with_len, list_any};
-ghost use Rattle.ppc_isa.specs.Map.{IsMap, IsHeld};
+ghost use Rattle.machines.specs.Prelude.{IsMap, IsHeld};
 ghost use Rattle.reg_map.specs.Place.{IsEmpty};
-ghost use Rattle.plan_form.specs.Maps.{IsMapOver};
+ghost use Rattle.plan_form.specs.Prelude.{IsMapOver};
 ghost use Rattle.offer_make.specs.Candidates.{IsCount, AreInOrderOfUse, AreCandidates, held_by, held, firsts};
 
 use crate::words::use_count;

@@ -1,8 +1,8 @@
 //! The maps over some candidates.
 
 ghost use Rattle.std.specs.Prelude.{◌≡◌, ◌≢◌, ◌≤◌, ◌<◌, ◌↔◌, IsTrue, IfOk, MatchOption, All, AllPairs, length};
-ghost use Rattle.ppc_isa.specs.declared.map.Map.{Map as MapValue};
-ghost use Rattle.plan_form.specs.Maps.{IsMapOver, map_number};
+ghost use Rattle.machines.specs.Prelude.{Map as MapValue};
+ghost use Rattle.plan_form.specs.Prelude.{IsMapOver, map_number};
 ghost use Rattle.offer_make.specs.Maps.{content_of as nth_content, AreApart, AreMapsOver};
 
 use ppc_isa::Map;

@@ -2,9 +2,8 @@
 
 ghost use Rattle.std.specs.Prelude.{◌≡◌, ◌+◌, ◌<◌, ◌≤◌, ◌^◌, ◌++◌, IfOk, OnOk, All, AllPairs, length, map, filter, slice_index};
 ghost use Rattle.std.specs.List.{flat_map, range_with_len};
-ghost use Rattle.ppc_isa.specs.Map.{IsMap};
-ghost use Rattle.reg_map.specs.Place.{slot_of};
-ghost use Rattle.reg_map.specs.Moves.{content as content_of, IsPossible};
+ghost use Rattle.machines.specs.Prelude.{IsMap};
+ghost use Rattle.reg_map.specs.Prelude.{slot_of, content as content_of, IsPossible};
 ghost use Rattle.offer_make.specs.Prices.{move_price as price_of};
 ghost use Rattle.offer_make.specs.Tables.{is_empty, may_move as may_move_of, slots, all_moves as all_moves_of, moves_between as moves_between_of, priced_at, moves_of};
 

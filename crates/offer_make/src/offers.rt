@@ -2,7 +2,7 @@
 
 ghost use Rattle.std.specs.Prelude.{◌≡◌, ◌==◌, ◌||◌, not, ◌<◌, ◌≤◌, ◌++◌, IfOk, OnOk, All, length, filter};
 ghost use Rattle.std.specs.List.{flat_map};
-ghost use Rattle.reg_map.specs.Place.{IsMap};
+ghost use Rattle.reg_map.specs.Prelude.{IsMap};
 ghost use Rattle.offer_make.specs.Prices.{HaveBaseTiles};
 ghost use Rattle.offer_make.specs.Tables.{base_tiles, is_same_map, may_lie, offers_of};
 

@@ -3,9 +3,8 @@
 ghost use Rattle.std.specs.Prelude.{◌≡◌, ◌≤◌, false, length};
 ghost use Rattle.std.specs.List.{sum_by};
 ghost use Rattle.std.specs.Prelude.{IfOk};
-ghost use Rattle.ia_codec.specs.Cost.{cost_of};
-ghost use Rattle.ppc_isa.specs.Legal.{IsLegal};
-ghost use Rattle.reg_map.specs.Place.{IsMap};
+ghost use Rattle.machines.specs.Prelude.{cost_of, IsLegal};
+ghost use Rattle.reg_map.specs.Prelude.{IsMap};
 ghost use Rattle.row_laws.specs.FlowWords.{is_flow as is_flow_word};
 ghost use Rattle.offer_make.specs.Prices.{item_cost as item_cost_of, straight_tile as straight_tile_of, base_price as base_price_of, HasBaseTile};
 

@@ -1,8 +1,7 @@
 //! The words of a block, and the GPRs that they use.
 
 ghost use Rattle.std.specs.Prelude.{◌<◌, ◌≤◌, ◌↔◌, ◌⊎◌, IsTrue, IfOk, IsBitSet, Contains, length};
-ghost use Rattle.ppc_isa.specs.Legal.{IsLegal};
-ghost use Rattle.ppc_isa.specs.Locations.{locations_read, locations_written};
+ghost use Rattle.machines.specs.Prelude.{IsLegal, locations_read, locations_written};
 ghost use Rattle.offer_make.specs.Candidates.{Uses, IsCount};
 ghost use Rattle.offer_make.specs.Problem.{AreReadAs};
 

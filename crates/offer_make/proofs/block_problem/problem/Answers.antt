@@ -1,6 +1,6 @@
 use Rattle.std.proofs.Common.{ℕ, ◌+◌, ◌-◌, ◌/◌, List, length, map, slice_index, refl, sym, subst, ap, ◌∙◌, arith}
 use Rattle.std.specs.List.{All, flat_map, range_with_len}
-use Rattle.ppc_isa.specs.Map.{IsMap}
+use Rattle.machines.specs.Prelude.{IsMap}
 use Rattle.plan_form.specs.declared.problem.MovePrice.{MovePrice}
 use Rattle.offer_make.specs.Candidates.{AreCandidates}
 use Rattle.offer_make.specs.Maps.{AreMapsOver}

@@ -1,6 +1,6 @@
 use Rattle.std.proofs.Common.{◌≡◌, ◌≤◌, ◌*◌, take}
 use Rattle.std.specs.List.{sum_by}
-use Rattle.ia_codec.specs.Cost.{cost_of}
+use Rattle.machines.specs.Prelude.{cost_of}
 use Rattle.offer_make.proofs.prices.ops_cost.Given as goal
 
 abbrev pub invariant-loop-op : goal.invariant-loop-op
