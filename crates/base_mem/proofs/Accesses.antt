@@ -1,4 +1,4 @@
--- Tiles of load_outcome and stores.
+-- Tiles of loads and stores.
 use Rattle.symbolic_tiles.proofs.Lengths.{room_append}
 use Rattle.std.proofs.Common.{◌≡◌, ℕ, zero, suc, ◌+◌, ◌/◌, ◌%◌, ◌^◌, ◌<◌, ◌≤◌, Bool, true, false, cond, List, ◌++◌, Contains, Option, Some, None, refl, sym, ap, ◌∙◌, subst, arith}
 use Rattle.machines.specs.Prelude.{sign_extended, Outside, Instr, IsLegal, Flags, swapped, Goes, Ends, update, load, store, load_big, store_big, each_byte, Rights, Guest, effect_of, guest_acts, at_next, load_outcome, Choice}

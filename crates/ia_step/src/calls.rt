@@ -52,7 +52,7 @@ impl State {
     }
 
     /// int 0x80.
-    pub(crate) fn host_system_call(&mut self, next: u32) -> Event
+    pub(crate) fn system_call(&mut self, next: u32) -> Event
         ensures leads { (p : Program) (h : Host) → IsState p self.old h → Leads p result self.new (host_system_call (rights_of p) next h) }
         ensures done { IsDone result self.old self.new }
     {

@@ -158,13 +158,13 @@ guest_values i loaded locs = record {
   loaded = loaded;
 }
 
--- what the access load_outcome, its highest byte first
+-- what the access loads, its highest byte first
 abbrev pub loaded_by : Access → ℕ → ℕ → (ℕ → ℕ) → ℕ
 loaded_by NoAccess width address bytes = 0
 loaded_by LoadAccess width address bytes = load_big width address bytes
 loaded_by StoreAccess width address bytes = 0
 
--- where and how an instruction load_outcome doesn't depend on what it load_outcome
+-- where and how an instruction loads doesn't depend on what it loads
 abbrev pub loaded_in : Effect → (ℕ → ℕ) → ℕ
 loaded_in e bytes = loaded_by e.kind e.width e.address bytes
 

@@ -54,7 +54,7 @@ pub target_is : (len field : ℕ) (absolute : Bool) (at next d t : ℕ) → at �
 target_is len field absolute at next d t at_is d_is t_is =
     t_is ∙ ap (λ x. cond absolute x ((at + x) % 2 ^ 32)) d_is ∙ ap (λ x. cond absolute (branch_target len field true 0) ((x + branch_target len field true 0) % 2 ^ 32)) at_is
 
--- the instruction that guest_acts
+-- the instruction that acts
 pub acted : (p : Program) (g : Guest) (i j : Instr) (e : Effect) (event : Event) (new : State) → i ≡ j → Leads p event new (guest_acts (rights_of p) j e g)
     → Leads p event new (guest_acts (rights_of p) i e g)
 acted p g i j e event new same is = subst (λ k. Leads p event new (guest_acts (rights_of p) k e g)) (sym same) is

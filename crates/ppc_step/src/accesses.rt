@@ -1,4 +1,4 @@
-//! Loads and store_outcome.
+//! Loads and stores.
 
 ghost use Rattle.std.specs.Prelude.{◌≡◌, ◌<◌, ◌-◌, ◌*◌, true, false};
 ghost use Rattle.machines.specs.Prelude.{Program, IsLegal, update, each_byte, load_big as big_number, store_big as big_stored, rights_of, Guest, effect_of, load_outcome, store_outcome, put_loaded, store_registers};

@@ -51,7 +51,7 @@ impl State {
     }
 
     /// sc.
-    pub(crate) fn guest_system_call(&mut self) -> Event
+    pub(crate) fn system_call(&mut self) -> Event
         ensures leads { (p : Program) (g : Guest) → IsState p self.old g → Leads p result self.new (guest_system_call (rights_of p) g) }
         ensures done { IsDone result self.old self.new }
     {

@@ -138,7 +138,7 @@ storing_same written rights e e' b b' f h p q next bytes s i locs =
     (Goes (record (at_next f (state p next bytes)) { bytes = b })) (Goes (record (at_next h (state q next bytes)) { bytes = b' })) (Ends Outside) (Ends Outside)
     (both (λ n a. each_byte rights.writable n a) s.width s.address) (record { locs = locs; next = refl; bytes = i }) refl
 
--- lmw load_outcome the registers that it writes
+-- lmw loads the registers that it writes
 pub loaded_alike : (d at at' : ℕ) (bytes p q : ℕ → ℕ) → d < 32 → at ≡ at' → SameIn (registers_from d) (put_loaded d at bytes p) (put_loaded d at' bytes q)
 loaded_alike d at at' bytes p q lt e x c =
     let r = in_registers d x lt c in

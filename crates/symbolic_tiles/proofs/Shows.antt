@@ -69,7 +69,7 @@ module _ (m : Map) (area : ℕ) (host : Rights) where
   operate_plain op r (Base b d) h = refl
   operate_plain op r (Pair b x t d) h = refl
 
-  -- a division host_acts so where it doesn't fault
+  -- a division acts so where it doesn't fault
   abbrev IsPlain : SymbolicOp → Type 0
   IsPlain (Divide signed r) = ⊥
   IsPlain _ = Unit {0}
