@@ -1,5 +1,0 @@
-//! Tests of plans, over the calls that make them.
-#![tactic(auto)]
-
-#[cfg(test)]
-mod blocks;
