@@ -30,8 +30,8 @@ fn register_of(binding: &Binding, r: u8) -> u8
     }
 }
 
-// The GPR of a parameter by its number.
-fn gpr_of(binding: &Binding, p: u32) -> u8
+/// The GPR of a parameter by its number; 0 where there is none.
+pub fn gpr_of(binding: &Binding, p: u32) -> u8
     ensures { result ≡ gpr binding.now p }
 {
     match binding.gpr.get(p.saturating_sub(1) as usize) {
