@@ -1,17 +1,13 @@
 -- The register fields of a rule's words have the numbers of its parameters. This project's own.
-use Rattle.std.proofs.Common.{◌≡◌, ◌≢◌, ℕ, ◌+◌, ◌<◌, ◌≤◌, ◌⊎◌, inl, inr, ⊎_elim, ◌==◌, ◌||◌, if◌then◌else◌, Bool, true, false, max, fold, List, [], ◌∷◌, ◌++◌, Option, Some, None, option_map, Contains, refl, sym, ap, ◌∙◌, subst, arith}
-use Rattle.std.specs.List.{flat_map}
+use Rattle.std.proofs.Common.{◌≡◌, ◌≢◌, ℕ, ◌+◌, ◌<◌, ◌≤◌, ◌⊎◌, inl, inr, ⊎_elim, ◌==◌, ◌||◌, if◌then◌else◌, Bool, true, false, max, fold, List, [], ◌∷◌, ◌++◌, Option, Some, None, option_map, refl, sym, ap, ◌∙◌, arith}
 use Rattle.std.proofs.Math.Nat.{le-max_left, le-max_right}
 use Rattle.std.proofs.lemmas.Bool.Decides.{nat_tests}
 use Rattle.ppc_isa.specs.Locations.{base}
-use Rattle.row_laws.proofs.Instructions.{Instr, Immediate, LogicImmediate, CompareImmediate, Rotate, Arithmetic, ArithmeticUnary, Logic, ShiftImmediate, LogicUnary, Compare, MoveFromCr, MoveToCr, MoveFromSpr, MoveToSpr, Sync, MoveCrField, CrLogic, Isync, Load, Store, LoadUpdate, StoreUpdate, LoadIndexed, StoreIndexed, LoadIndexedUpdate, StoreIndexedUpdate, BranchConditional, Multiple, TrapImmediate, Branch, SystemCall, Trap, BranchRegister, RotateOp, Rlwinm, Rlwnm, Rlwimi, Addi, Addis, Addic, AddicRecord, Subfic, Mulli}
-use Rattle.reg_map.specs.Place.{holds}
-use Rattle.rule_body.specs.Rows.{is_plain, is_ending}
-use Rattle.rule_body.specs.Numbers.{numbers, AreNumbered, highest}
-use Rattle.rule_meaning.specs.Matches.{Match}
-use Rattle.rule_meaning.specs.LaidWords.{register_field, bound}
+use Rattle.machines.specs.Prelude.{Instr, Immediate, Rotate, Load, Store, LoadIndexed, StoreIndexed, Multiple, TrapImmediate, Trap, Rlwinm, Rlwnm, Rlwimi, Addi, Addis, Addic, AddicRecord, Subfic, Mulli}
+use Rattle.reg_map.specs.Prelude.{holds}
+use Rattle.rule_body.specs.Prelude.{is_plain, is_ending, numbers, AreNumbered, highest}
+use Rattle.rule_meaning.specs.Prelude.{register_field, bound}
 use Rattle.rule_meaning.specs.Fields.{s_field, a_field, b_field}
-use Rattle.rule_match.specs.Matching.{register_in}
 
 -- one of the numbers is p
 abbrev pub is_among : ℕ → List ℕ → Bool

@@ -1,10 +1,8 @@
 -- An instruction of a rule where it is laid: its fields fit, and they have the registers of the match. This project's own.
-use Rattle.std.proofs.Common.{◌≡◌, ℕ, ◌<◌, ◌^◌, ◌==◌, if◌then◌else◌, Bool, true, false, Option, Some, None, refl, sym, ap, ◌∙◌, arith}
-use Rattle.ppc_isa.specs.Legal.{bit, layout}
-use Rattle.ppc_isa.specs.Word.{Fit}
-use Rattle.row_laws.proofs.Instructions.{Instr, Immediate, LogicImmediate, CompareImmediate, Rotate, Arithmetic, ArithmeticUnary, Logic, ShiftImmediate, LogicUnary, Compare, MoveFromCr, MoveToCr, MoveFromSpr, MoveToSpr, Sync, MoveCrField, CrLogic, Isync, Load, Store, LoadUpdate, StoreUpdate, LoadIndexed, StoreIndexed, LoadIndexedUpdate, StoreIndexedUpdate, BranchConditional, Multiple, TrapImmediate, Branch, SystemCall, Trap, BranchRegister, RotateOp, Rlwinm, Rlwnm, Rlwimi, Addi, Addis, Addic, AddicRecord, Subfic, Mulli}
-use Rattle.rule_meaning.specs.Matches.{Match}
-use Rattle.rule_meaning.specs.LaidWords.{register_field, bound, filled}
+use Rattle.std.proofs.Common.{◌≡◌, ℕ, ◌<◌, ◌^◌, ◌==◌, if◌then◌else◌, Bool, true, false, Some, refl, sym, ap, ◌∙◌, arith}
+use Rattle.machines.specs.Prelude.{layout, Fit, Instr, Immediate, LogicImmediate, CompareImmediate, Rotate, Arithmetic, ArithmeticUnary, Logic, ShiftImmediate, LogicUnary, Compare, MoveFromCr, MoveToCr, MoveFromSpr, MoveToSpr, Load, Store, LoadUpdate, StoreUpdate, LoadIndexed, StoreIndexed, LoadIndexedUpdate, StoreIndexedUpdate, BranchConditional, Rlwinm, Rlwnm, Rlwimi}
+use Rattle.ppc_isa.specs.Legal.{bit}
+use Rattle.rule_meaning.specs.Prelude.{Match, register_field, bound, filled}
 use Rattle.rule_meaning.specs.Fields.{s_field, a_field, b_field}
 use Rattle.rule_match.specs.Bindings.{constant_of, target_field, is_absolute}
 

@@ -1,27 +1,16 @@
 -- A binding under which a rule matches, piece by piece. This project's own.
-use Rattle.std.proofs.Common.{◌≡◌, ◌≢◌, ℕ, zero, suc, ◌+◌, ◌-◌, ◌<◌, ◌≤◌, ⊎_elim, ◌==◌, ◌&&◌, ◌||◌, Bool, true, false, max, fold, List, [], ◌∷◌, take, length, get_or, slice_get, Option, Some, None, refl, sym, ap, ◌∙◌, subst, arith}
+use Rattle.std.proofs.Common.{◌≡◌, ◌≢◌, ℕ, zero, suc, ◌+◌, ◌-◌, ◌<◌, ◌≤◌, ⊎_elim, ◌==◌, ◌&&◌, ◌||◌, Bool, true, false, List, [], ◌∷◌, take, length, get_or, slice_get, Some, refl, sym, ap, ◌∙◌, subst, arith}
 use Rattle.std.specs.List.{flat_map, list_any, range_with_len}
 use Rattle.std.proofs.lemmas.Bool.{cases_lt}
 use Rattle.std.proofs.lemmas.List.{get_or-take, get_or_past, length-take-le}
-use Rattle.std.proofs.lemmas.Option.{slice_get_within}
-use Rattle.ppc_isa.specs.declared.locs.Locs.{Locs}
-use Rattle.ppc_isa.specs.declared.map.Map.{Map}
-use Rattle.ppc_isa.specs.Legal.{HasOneInstruction}
-use Rattle.ppc_isa.specs.Map.{IsMap}
-use Rattle.row_laws.proofs.Instructions.{Instr, Immediate, Load, Store, LoadIndexed, StoreIndexed, Addi, Addis}
-use Rattle.reg_map.specs.Place.{slot_of, holds}
+use Rattle.machines.specs.Prelude.{Locs, Map, HasOneInstruction, IsMap, Instr, Immediate, Load, Store, LoadIndexed, StoreIndexed, Addi, Addis}
+use Rattle.reg_map.specs.Prelude.{slot_of}
 use Rattle.rule_body.specs.declared.goal.Goal.{Goal}
 use Rattle.rule_body.specs.declared.goal.Guest.{Guest}
 use Rattle.rule_body.specs.declared.rule.Rule.{Rule}
-use Rattle.rule_body.specs.Goals.{IsGoal, guests_of}
-use Rattle.rule_body.specs.Numbers.{numbers, highest}
-use Rattle.rule_body.specs.Templates.{AreGuests, IsPlaced, slot_count}
+use Rattle.rule_body.specs.Prelude.{IsGoal, guests_of, numbers, highest, AreGuests, IsPlaced, slot_count}
 use Rattle.rule_body.proofs.Guests.{length-guests}
-use Rattle.rule_meaning.specs.Matches.{Match, base_field, slot_register}
-use Rattle.rule_meaning.specs.Laid.{AreWordsOf, IsMatchAt}
-use Rattle.rule_meaning.specs.LaidWords.{laid_words}
-use Rattle.rule_meaning.specs.Fields.{s_field, a_field, b_field}
-use Rattle.rule_meaning.specs.Sound.{is_dead_name, location_named, dead_of}
+use Rattle.rule_meaning.specs.Prelude.{Match, base_field, slot_register, laid_words, is_dead_name, location_named, dead_of}
 use Rattle.rule_match.specs.declared.binding.Binding.{Binding}
 use Rattle.rule_match.specs.Bindings.{constant_at, gpr_of, match_of}
 use Rattle.rule_match.specs.Matching.{is_in, IsBindingAt, AreLaidWords, AreGprs, register_read}

@@ -6,11 +6,10 @@ use Rattle.std.proofs.lemmas.Grind.{get_or-set_at}
 use Rattle.std.proofs.lemmas.List.Recursion.{is_count_by}
 use Rattle.std.proofs.lemmas.List.Sums.{count_by_more_no, count_by_more_yes}
 use Rattle.std.proofs.lemmas.Option.{get_or_from_slice_get, slice_get_within}
-use Rattle.ppc_isa.specs.declared.map.Map.{Map}
-use Rattle.reg_map.specs.Place.{slot_of}
-use Rattle.reg_map.specs.Registers.{ebx, esi}
-use Rattle.rule_body.specs.Templates.{slot_count}
-use Rattle.rule_meaning.specs.Matches.{slot_register}
+use Rattle.machines.specs.Prelude.{Map, ebx, esi}
+use Rattle.reg_map.specs.Prelude.{slot_of}
+use Rattle.rule_body.specs.Prelude.{slot_count}
+use Rattle.rule_meaning.specs.Prelude.{slot_register}
 use Rattle.rule_match.specs.SlotNumbers.{IsPlace, ArePlaces, AreSlotNumbers, IsSlotNumber}
 
 pub same_register : {x y : ℕ} → Some x ≡ Some y → x ≡ y

@@ -1,24 +1,20 @@
 -- The words of a rule where it is laid, one by one. This project's own.
-use Rattle.std.proofs.Common.{◌≡◌, ◌≢◌, ℕ, zero, suc, ◌+◌, ◌<◌, ◌≤◌, ◌^◌, ◌⊎◌, inl, inr, ⊎_elim, ◌==◌, ◌||◌, if◌then◌else◌, Bool, true, false, List, [], ◌∷◌, ◌++◌, drop, length, slice_get, Option, Some, None, option_map, refl, sym, ap, ◌∙◌, subst, arith}
+use Rattle.std.proofs.Common.{◌≡◌, ◌≢◌, ℕ, zero, suc, ◌+◌, ◌<◌, ◌≤◌, ◌^◌, ◌⊎◌, inl, inr, ⊎_elim, ◌==◌, ◌||◌, if◌then◌else◌, Bool, true, false, List, [], ◌∷◌, ◌++◌, drop, length, slice_get, Some, None, option_map, refl, sym, ap, ◌∙◌, subst, arith}
 use Rattle.std.specs.List.{flat_map}
 use Rattle.std.proofs.Math.ListN.{drop_of_length-le}
-use Rattle.ppc_isa.specs.Legal.{IsWordOf, HasOneInstruction}
-use Rattle.row_laws.proofs.Instructions.{Instr, Immediate, LogicImmediate, CompareImmediate, Load, Store, LoadUpdate, StoreUpdate, BranchConditional}
-use Rattle.reg_map.specs.Place.{holds}
+use Rattle.machines.specs.Prelude.{IsWordOf, HasOneInstruction, Instr, Immediate, LogicImmediate, CompareImmediate, Load, Store, LoadUpdate, StoreUpdate, BranchConditional}
+use Rattle.reg_map.specs.Prelude.{holds}
 use Rattle.rule_body.specs.declared.goal.Guest.{Guest}
-use Rattle.rule_body.specs.Rows.{is_plain, is_ending}
-use Rattle.rule_body.specs.Numbers.{numbers}
-use Rattle.rule_body.specs.Templates.{IsGuest, AreGuests, AreStraight}
-use Rattle.rule_meaning.specs.Matches.{Match, base_field}
-use Rattle.rule_meaning.specs.LaidWords.{register_field, bound, filled, laid_word, laid_words}
-use Rattle.rule_meaning.specs.Laid.{AreWordsOf}
+use Rattle.rule_body.specs.Prelude.{is_plain, is_ending, numbers, IsGuest, AreGuests, AreStraight}
+use Rattle.rule_meaning.specs.Prelude.{Match, base_field, register_field, bound, filled, laid_words, AreWordsOf}
+use Rattle.rule_meaning.specs.LaidWords.{laid_word}
 use Rattle.rule_meaning.specs.Fields.{s_field, a_field, b_field}
 use Rattle.rule_meaning.proofs.Grammar.{row_of}
 use Rattle.rule_match.specs.declared.binding.Binding.{Binding}
 use Rattle.rule_match.specs.Bindings.{constant_of, constant_at, target_field, is_absolute, last_target, last_absolute, gpr_of, match_of}
 use Rattle.rule_match.specs.Matching.{match_of_word, IsLaidWord, AreLaidWords, register_in, or_else, register_read}
 use Rattle.rule_match.proofs.LaidInstr.{SameFields, bound_same, same_filled, filled_bound_s, filled_bound_a, filled_bound_b, filled_again, constant_fits}
-use Rattle.rule_match.proofs.FieldNumbers.{is_among, has_field, MayStand, same_number, either, among_append, fields_are, s_bound, a_bound, b_bound, first_field}
+use Rattle.rule_match.proofs.FieldNumbers.{is_among, has_field, MayStand, same_number, among_append, fields_are, s_bound, a_bound, b_bound, first_field}
 
 pub none_or_some : {A : Type 0} (x : A) → None ≡ Some x → ⊥
 none_or_some x e = cc

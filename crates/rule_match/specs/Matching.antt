@@ -1,18 +1,13 @@
 -- Under which binding a rule matches. This project's own.
-use Rattle.std.specs.Prelude.{◌≡◌, ◌≢◌, ℕ, ◌<◌, ◌≤◌, ◌/◌, ◌%◌, ◌^◌, ◌==◌, Bool, if◌then◌else◌, List, [], ◌∷◌, take, length, slice_index_or, Option, Some, None}
-use Rattle.ppc_isa.specs.declared.instr.Instr.{Instr}
-use Rattle.ppc_isa.specs.declared.locs.Locs.{Locs}
-use Rattle.ppc_isa.specs.declared.map.Map.{Map}
-use Rattle.ppc_isa.specs.Legal.{IsWordOf}
-use Rattle.reg_map.specs.Place.{holds}
+use Rattle.std.specs.Prelude.{◌≡◌, ◌≢◌, ℕ, ◌<◌, ◌≤◌, ◌/◌, ◌%◌, ◌^◌, ◌==◌, Bool, if◌then◌else◌, List, [], ◌∷◌, length, slice_index_or, Option, Some, None}
+use Rattle.machines.specs.Prelude.{Instr, Locs, Map, IsWordOf}
+use Rattle.reg_map.specs.Prelude.{holds}
 use Rattle.rule_body.specs.declared.goal.Goal.{Goal}
 use Rattle.rule_body.specs.declared.goal.Guest.{Guest}
 use Rattle.rule_body.specs.declared.rule.Rule.{Rule}
-use Rattle.rule_body.specs.Templates.{slot_count}
-use Rattle.rule_body.specs.Goals.{template_of}
-use Rattle.rule_meaning.specs.Matches.{Match, base_field}
+use Rattle.rule_body.specs.Prelude.{slot_count, template_of}
+use Rattle.rule_meaning.specs.Prelude.{Match, base_field, IsMatchAt, AreWordsOf}
 use Rattle.rule_meaning.specs.LaidWords.{laid_word}
-use Rattle.rule_meaning.specs.Laid.{IsMatchAt, AreWordsOf}
 use Rattle.rule_meaning.specs.Fields.{s_field, a_field, b_field}
 use Rattle.rule_match.specs.declared.binding.Binding.{Binding}
 use Rattle.rule_match.specs.Bindings.{constant_of, target_field, is_absolute, gpr_of, register_for, match_of}

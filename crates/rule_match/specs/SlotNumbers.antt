@@ -1,9 +1,9 @@
 -- The numbers of the slots in which the parameters of a rule stand. This project's own.
 use Rattle.std.specs.Prelude.{◌≡◌, ℕ, ◌<◌, ◌≤◌, Bool, true, false, List, take, length, slice_get, slice_index_or, Option, Some, None}
-use Rattle.ppc_isa.specs.declared.map.Map.{Map}
-use Rattle.reg_map.specs.Place.{slot_of}
-use Rattle.rule_body.specs.Templates.{slot_count}
-use Rattle.rule_meaning.specs.Matches.{slot_register}
+use Rattle.machines.specs.Prelude.{Map}
+use Rattle.reg_map.specs.Prelude.{slot_of}
+use Rattle.rule_body.specs.Prelude.{slot_count}
+use Rattle.rule_meaning.specs.Prelude.{slot_register}
 
 -- each parameter stands in a slot, or at home, as the rule has it
 abbrev pub IsPlace : Bool → Option ℕ → Type 0

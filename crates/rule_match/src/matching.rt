@@ -1,9 +1,9 @@
 //! Where a rule matches.
 
 ghost use Rattle.std.specs.Prelude.{◌≡◌, ◌≢◌, ◌↔◌, ◌≤◌, ◌<◌, ℕ, IsTrue, IfSome, [], length, slice_index_or, true};
-ghost use Rattle.ppc_isa.specs.Map.{IsMap};
-ghost use Rattle.rule_body.specs.Goals.{IsGoal};
-ghost use Rattle.rule_meaning.specs.Sound.{is_dead_name, location_named as location_for};
+ghost use Rattle.machines.specs.Prelude.{IsMap};
+ghost use Rattle.rule_body.specs.Prelude.{IsGoal};
+ghost use Rattle.rule_meaning.specs.Prelude.{is_dead_name, location_named as location_for};
 ghost use Rattle.rule_match.specs.Bindings.{match_of, gpr_of as gpr_for};
 ghost use Rattle.rule_match.specs.Matching.{is_in, AreGprs, IsBindingAt};
 
@@ -120,7 +120,7 @@ pub fn is_match_at(rule: &Rule, window: &[u32], map: &Map, dead: &Locs, binding:
 /// the window: the window is that of the rule, with different GPRs in the place of parameters, none of them GPR 0 in a
 /// place where 0 names the number 0, and with any constant or target in a word that is free; each parameter stands in a
 /// slot or at home as the rule has it; and each dead name is dead. A branch stands last, as it does in a block. None
-/// where the rule doesn't match.
+/// where no binding makes the rule match.
 pub fn match_at(rule: &Rule, window: &[u32], map: &Map, dead: &Locs) -> Option<Binding>
     requires goal { IsGoal rule.now.goal }
     requires map { IsMap map.now }

@@ -1,11 +1,9 @@
 //! The GPRs of parameters, as they stand in the words of a window.
 
 ghost use Rattle.std.specs.Prelude.{◌≡◌, ◌≤◌, ◌<◌, ◌+◌, ℕ, List, length, slice_index_or, if◌then◌else◌, nat_lt};
-ghost use Rattle.ppc_isa.specs.declared.instr.Instr.{Instr};
-ghost use Rattle.ppc_isa.specs.Legal.{IsWordOf};
-ghost use Rattle.rule_body.specs.Goals.{IsGoal, guests_of};
-ghost use Rattle.rule_body.specs.Templates.{AreGuests};
-ghost use Rattle.rule_meaning.specs.Laid.{AreWordsOf};
+ghost use Rattle.machines.specs.Prelude.{Instr, IsWordOf};
+ghost use Rattle.rule_body.specs.Prelude.{IsGoal, guests_of, AreGuests};
+ghost use Rattle.rule_meaning.specs.Prelude.{AreWordsOf};
 ghost use Rattle.rule_match.specs.Matching.{register_in as register_for, register_read};
 
 use crate::fields::register_in;

@@ -1,13 +1,9 @@
 //! The words of a rule where it is laid.
 
 ghost use Rattle.std.specs.Prelude.{◌≡◌, ◌≢◌, ◌↔◌, ◌<◌, ◌≤◌, ℕ, IsTrue, if◌then◌else◌, length};
-ghost use Rattle.ppc_isa.specs.declared.instr.Instr.{Instr as Instruction};
-ghost use Rattle.ppc_isa.specs.Legal.{layout, Allowed, IsSpr, IsWordOf};
-ghost use Rattle.ppc_isa.specs.Word.{Fit};
-ghost use Rattle.rule_meaning.specs.Matches.{base_field as base};
-ghost use Rattle.rule_body.specs.Goals.{IsGoal, guests_of};
-ghost use Rattle.rule_body.specs.Templates.{IsGuest};
-ghost use Rattle.rule_meaning.specs.LaidWords.{register_field as field_for, bound as bind, filled as fill};
+ghost use Rattle.machines.specs.Prelude.{Instr as Instruction, layout, Allowed, IsSpr, IsWordOf, Fit};
+ghost use Rattle.rule_meaning.specs.Prelude.{base_field as base, register_field as field_for, bound as bind, filled as fill};
+ghost use Rattle.rule_body.specs.Prelude.{IsGoal, guests_of, IsGuest};
 ghost use Rattle.rule_match.specs.Bindings.{gpr_of as gpr, target_field as target, is_absolute as absolute};
 ghost use Rattle.rule_match.specs.Matching.{match_of_word, IsLaidWord, AreLaidWords, AreGprs};
 

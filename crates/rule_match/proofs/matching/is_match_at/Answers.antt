@@ -1,4 +1,4 @@
-use Rattle.std.proofs.Common.{◌≡◌, Bool, not, false, true, sym, ap, ◌∙◌, subst, take, refl, arith}
+use Rattle.std.proofs.Common.{◌≡◌, Bool, not, false, true, sym, ◌∙◌, subst, take, refl, arith}
 use Rattle.std.proofs.lemmas.Bool.{false≢true}
 use Rattle.std.specs.Cmp.Lexicographic.{same_text, other_text}
 use Rattle.rule_match.specs.SlotNumbers.{AreSlotNumbers}

@@ -1,4 +1,4 @@
-use Rattle.std.proofs.Common.{◌≡◌, false, true, List, ℕ, Some, None, sym, ap, ◌∙◌, subst, take, arith}
+use Rattle.std.proofs.Common.{◌≡◌, false, true, ℕ, Some, sym, ap, ◌∙◌, subst, take, arith}
 use Rattle.std.proofs.lemmas.Bool.{false≢true}
 use Rattle.rule_match.specs.Matching.{IsBindingAt}
 use Rattle.rule_match.specs.SlotNumbers.{ArePlaces}

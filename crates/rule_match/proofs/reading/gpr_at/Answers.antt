@@ -1,10 +1,7 @@
-use Rattle.std.proofs.Common.{◌≡◌, ℕ, ◌+◌, false, List, get_or, drop, length, slice_get, Some, refl, sym, ap, ◌∙◌, arith}
+use Rattle.std.proofs.Common.{◌≡◌, ℕ, ◌+◌, false, get_or, drop, length, sym, ap, ◌∙◌, arith}
 use Rattle.std.proofs.lemmas.Option.{slice_get-get_or}
-use Rattle.ppc_isa.specs.declared.instr.Instr.{Instr}
 use Rattle.rule_body.specs.declared.goal.Guest.{Guest}
-use Rattle.rule_body.specs.Goals.{guests_of}
-use Rattle.rule_body.specs.Templates.{AreGuests}
-use Rattle.rule_meaning.specs.Laid.{AreWordsOf}
+use Rattle.rule_body.specs.Prelude.{guests_of}
 use Rattle.rule_body.proofs.Guests.{guest-at, length-guests}
 use Rattle.rule_match.specs.Matching.{or_else, register_read}
 use Rattle.rule_match.proofs.Windows.{read_step, read_past, guest_lengths}

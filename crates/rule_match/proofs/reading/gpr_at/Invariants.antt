@@ -1,8 +1,7 @@
 use Rattle.std.proofs.Common.{◌≡◌, List, drop}
-use Rattle.ppc_isa.specs.declared.instr.Instr.{Instr}
-use Rattle.rule_body.specs.Goals.{guests_of}
-use Rattle.rule_body.specs.Templates.{AreGuests}
-use Rattle.rule_meaning.specs.Laid.{AreWordsOf}
+use Rattle.machines.specs.Prelude.{Instr}
+use Rattle.rule_body.specs.Prelude.{guests_of, AreGuests}
+use Rattle.rule_meaning.specs.Prelude.{AreWordsOf}
 use Rattle.rule_match.specs.Matching.{register_read}
 use Rattle.rule_match.proofs.reading.gpr_at.Given as goal
 

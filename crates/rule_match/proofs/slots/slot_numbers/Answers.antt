@@ -1,6 +1,6 @@
-use Rattle.std.proofs.Common.{◌≡◌, ◌+◌, true, false, get_or, slice_get, slice_set, Some, None, sym, ap, ◌∙◌, subst, arith}
+use Rattle.std.proofs.Common.{◌≡◌, ◌+◌, true, false, get_or, slice_get, Some, sym, ap, ◌∙◌, subst, arith}
 use Rattle.std.proofs.lemmas.Option.{slice_get-get_or}
-use Rattle.reg_map.specs.Place.{slot_of}
+use Rattle.reg_map.specs.Prelude.{slot_of}
 use Rattle.rule_match.specs.SlotNumbers.{IsSlotNumber}
 use Rattle.rule_match.proofs.SlotCounts.{not_at_home, not_in_slot, at_home_is, in_slot_is, AreNumbersTo, one_at_home, one_in_slot, all_numbers, count_within}
 use Rattle.rule_match.proofs.slots.slot_numbers.Goals.{in-true-Some, in-false-None}

@@ -1,8 +1,8 @@
-use Rattle.std.proofs.Common.{◌≡◌, ℕ, ◌+◌, ◌<◌, ◌≤◌, ◌⊎◌, inl, inr, ⊎_elim, false, Some, None, length, get_or, slice_get, refl, sym, ap, ◌∙◌, subst, arith}
+use Rattle.std.proofs.Common.{◌≡◌, ℕ, ◌+◌, ◌<◌, ◌≤◌, ◌⊎◌, ⊎_elim, false, Some, length, get_or, slice_get, refl, sym, ap, ◌∙◌, subst, arith}
 use Rattle.std.proofs.lemmas.Bool.{cases_lt, false≢true}
 use Rattle.std.proofs.lemmas.Option.{slice_get-get_or, get_or_from_slice_get, slice_get_within}
 use Rattle.rule_body.specs.declared.goal.Guest.{Guest}
-use Rattle.rule_body.specs.Goals.{guests_of}
+use Rattle.rule_body.specs.Prelude.{guests_of}
 use Rattle.rule_body.proofs.Guests.{guest-at, length-guests}
 use Rattle.rule_match.specs.Matching.{IsLaidWord}
 use Rattle.rule_match.proofs.Windows.{laid_at, laid_all, none_or_some, same_some}

@@ -1,6 +1,6 @@
 use Rattle.std.proofs.Common.{◌≡◌, ℕ, ◌<◌, slice_get, Some}
 use Rattle.rule_body.specs.declared.goal.Guest.{Guest}
-use Rattle.rule_body.specs.Goals.{guests_of}
+use Rattle.rule_body.specs.Prelude.{guests_of}
 use Rattle.rule_match.specs.Matching.{IsLaidWord}
 use Rattle.rule_match.proofs.words.words_fit.Given as goal
 
