@@ -1,1 +1,6 @@
 pub mod Constants
+pub mod FieldNumbers
+pub mod LaidInstr
+pub mod Pieces
+pub mod SlotCounts
+pub mod Windows

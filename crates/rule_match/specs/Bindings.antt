@@ -1,12 +1,8 @@
 -- What a binding at a window says. This project's own.
 use Rattle.std.specs.Prelude.{ℕ, zero, suc, ◌-◌, ◌==◌, if◌then◌else◌, Bool, false, List, [], ◌∷◌, slice_index_or}
-use Rattle.ppc_isa.specs.declared.instr.Instr.{Instr}
-use Rattle.ppc_isa.specs.declared.instr.Instr.TheVariants.{Immediate, LogicImmediate, Load, Store, LoadUpdate, StoreUpdate, CompareImmediate, BranchConditional}
-use Rattle.ia_codec.specs.declared.op.Op.{Op}
-use Rattle.ia_codec.specs.Registers.{ebx, esi}
+use Rattle.machines.specs.Prelude.{Instr, Immediate, LogicImmediate, Load, Store, LoadUpdate, StoreUpdate, CompareImmediate, BranchConditional, Op, ebx, esi}
 use Rattle.rule_body.specs.declared.rule.Rule.{Rule}
-use Rattle.rule_meaning.specs.Matches.{Match, slot_register}
-use Rattle.rule_meaning.specs.LaidOps.{laid_ops}
+use Rattle.rule_meaning.specs.Prelude.{Match, slot_register, laid_ops}
 use Rattle.rule_match.specs.declared.binding.Binding.{Binding}
 
 -- the immediate of 16 bits of an instruction; 0 where it has none

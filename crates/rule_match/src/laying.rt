@@ -1,9 +1,8 @@
 //! The ops of a rule where it matches.
 
 ghost use Rattle.std.specs.Prelude.{◌≡◌, ◌≤◌, List, IfOk};
-ghost use Rattle.ppc_isa.specs.declared.instr.Instr.{Instr};
-ghost use Rattle.rule_meaning.specs.Laid.{AreWordsOf};
-ghost use Rattle.rule_meaning.specs.LaidOps.{laid_line as line_for};
+ghost use Rattle.machines.specs.Prelude.{Instr};
+ghost use Rattle.rule_meaning.specs.Prelude.{AreWordsOf, laid_line as line_for};
 ghost use Rattle.rule_match.specs.Bindings.{constant_at as constant, match_of, instantiated};
 
 use crate::binding::Binding;

@@ -1,8 +1,7 @@
 //! Ops with the registers and homes of a binding.
 
 ghost use Rattle.std.specs.Prelude.{◌≡◌, [], ◌-◌};
-ghost use Rattle.rule_meaning.specs.Matches.{slot_register as register_for};
-ghost use Rattle.rule_meaning.specs.LaidOps.{register_of as register, offset_of as offset_for, placed_operand as operand_for, placed as op_for};
+ghost use Rattle.rule_meaning.specs.Prelude.{slot_register as register_for, register_of as register, offset_of as offset_for, placed_operand as operand_for, placed as op_for};
 ghost use Rattle.rule_match.specs.Bindings.{match_of, gpr_of as gpr};
 
 use crate::binding::Binding;
@@ -30,8 +29,8 @@ fn register_of(binding: &Binding, r: u8) -> u8
     }
 }
 
-// The GPR of a parameter by its number.
-fn gpr_of(binding: &Binding, p: u32) -> u8
+/// The GPR of a parameter by its number; 0 where there is none.
+pub fn gpr_of(binding: &Binding, p: u32) -> u8
     ensures { result ≡ gpr binding.now p }
 {
     match binding.gpr.get(p.saturating_sub(1) as usize) {

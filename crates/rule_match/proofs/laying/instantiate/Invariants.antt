@@ -1,7 +1,6 @@
 use Rattle.std.proofs.Common.{◌≡◌, List, map, take}
-use Rattle.ppc_isa.specs.declared.instr.Instr.{Instr}
-use Rattle.rule_meaning.specs.Laid.{AreWordsOf}
-use Rattle.rule_meaning.specs.LaidOps.{laid_line}
+use Rattle.machines.specs.Prelude.{Instr}
+use Rattle.rule_meaning.specs.Prelude.{AreWordsOf, laid_line}
 use Rattle.rule_match.specs.Bindings.{match_of}
 use Rattle.rule_match.proofs.laying.instantiate.Given as goal
 
