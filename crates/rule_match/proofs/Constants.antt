@@ -1,7 +1,7 @@
 -- The constant of a word is that of its instruction. This project's own.
 use Rattle.std.proofs.Common.{◌≡◌, ℕ, zero, suc, List, [], ◌∷◌, slice_get, Some, None, refl, subst}
 use Rattle.machines.specs.Prelude.{Instr, IsWordOf}
-use Rattle.rule_meaning.specs.Prelude.{AreWordsOf}
+use Rattle.rule_soundness.specs.Prelude.{AreWordsOf}
 use Rattle.rule_match.specs.Bindings.{constant_of, constant_at}
 
 pub no_constant : (window : List ℕ) (found : List Instr) (j : ℕ) → AreWordsOf window found → slice_get window j ≡ None → constant_at found j ≡ 0

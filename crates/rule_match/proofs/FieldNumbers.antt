@@ -6,8 +6,8 @@ use Rattle.ppc_isa.specs.Locations.{base}
 use Rattle.machines.specs.Prelude.{Instr, Immediate, Rotate, Load, Store, LoadIndexed, StoreIndexed, Multiple, TrapImmediate, Trap, Rlwinm, Rlwnm, Rlwimi, Addi, Addis, Addic, AddicRecord, Subfic, Mulli}
 use Rattle.reg_map.specs.Prelude.{holds}
 use Rattle.rule_body.specs.Prelude.{is_plain, is_ending, numbers, AreNumbered, highest}
-use Rattle.rule_meaning.specs.Prelude.{register_field, bound}
-use Rattle.rule_meaning.specs.Fields.{s_field, a_field, b_field}
+use Rattle.rule_soundness.specs.Prelude.{register_field, bound}
+use Rattle.rule_soundness.specs.Fields.{s_field, a_field, b_field}
 
 -- one of the numbers is p
 abbrev pub is_among : ℕ → List ℕ → Bool

@@ -2,8 +2,8 @@
 use Rattle.std.proofs.Common.{◌≡◌, ℕ, ◌<◌, ◌^◌, ◌==◌, if◌then◌else◌, Bool, true, false, Some, refl, sym, ap, ◌∙◌, arith}
 use Rattle.machines.specs.Prelude.{layout, Fit, Instr, Immediate, LogicImmediate, CompareImmediate, Rotate, Arithmetic, ArithmeticUnary, Logic, ShiftImmediate, LogicUnary, Compare, MoveFromCr, MoveToCr, MoveFromSpr, MoveToSpr, Load, Store, LoadUpdate, StoreUpdate, LoadIndexed, StoreIndexed, LoadIndexedUpdate, StoreIndexedUpdate, BranchConditional, Rlwinm, Rlwnm, Rlwimi}
 use Rattle.ppc_isa.specs.Legal.{bit}
-use Rattle.rule_meaning.specs.Prelude.{Match, register_field, bound, filled}
-use Rattle.rule_meaning.specs.Fields.{s_field, a_field, b_field}
+use Rattle.rule_soundness.specs.Prelude.{Match, register_field, bound, filled}
+use Rattle.rule_soundness.specs.Fields.{s_field, a_field, b_field}
 use Rattle.rule_match.specs.Bindings.{constant_of, target_field, is_absolute}
 
 bit_below : (b : Bool) → bit b < 2 ^ 1

@@ -10,7 +10,7 @@ use Rattle.rule_body.specs.declared.goal.Guest.{Guest}
 use Rattle.rule_body.specs.declared.rule.Rule.{Rule}
 use Rattle.rule_body.specs.Prelude.{IsGoal, guests_of, numbers, highest, AreGuests, IsPlaced, slot_count}
 use Rattle.rule_body.proofs.Guests.{length-guests}
-use Rattle.rule_meaning.specs.Prelude.{Match, base_field, slot_register, laid_words, is_dead_name, location_named, dead_of}
+use Rattle.rule_soundness.specs.Prelude.{Match, base_field, slot_register, laid_words, is_dead_name, location_named, dead_of}
 use Rattle.rule_match.specs.declared.binding.Binding.{Binding}
 use Rattle.rule_match.specs.Bindings.{constant_at, gpr_of, match_of}
 use Rattle.rule_match.specs.Matching.{is_in, IsBindingAt, AreLaidWords, AreGprs, register_read}

@@ -9,7 +9,7 @@ use Rattle.std.proofs.lemmas.Option.{get_or_from_slice_get, slice_get_within}
 use Rattle.machines.specs.Prelude.{Map, ebx, esi}
 use Rattle.reg_map.specs.Prelude.{slot_of}
 use Rattle.rule_body.specs.Prelude.{slot_count}
-use Rattle.rule_meaning.specs.Prelude.{slot_register}
+use Rattle.rule_soundness.specs.Prelude.{slot_register}
 use Rattle.rule_match.specs.SlotNumbers.{IsPlace, ArePlaces, AreSlotNumbers, IsSlotNumber}
 
 pub same_register : {x y : ℕ} → Some x ≡ Some y → x ≡ y

@@ -6,10 +6,10 @@ use Rattle.machines.specs.Prelude.{IsWordOf, HasOneInstruction, Instr, Immediate
 use Rattle.reg_map.specs.Prelude.{holds}
 use Rattle.rule_body.specs.declared.goal.Guest.{Guest}
 use Rattle.rule_body.specs.Prelude.{is_plain, is_ending, numbers, IsGuest, AreGuests, AreStraight}
-use Rattle.rule_meaning.specs.Prelude.{Match, base_field, register_field, bound, filled, laid_words, AreWordsOf}
-use Rattle.rule_meaning.specs.LaidWords.{laid_word}
-use Rattle.rule_meaning.specs.Fields.{s_field, a_field, b_field}
-use Rattle.rule_meaning.proofs.Grammar.{row_of}
+use Rattle.rule_soundness.specs.Prelude.{Match, base_field, register_field, bound, filled, laid_words, AreWordsOf}
+use Rattle.rule_soundness.specs.LaidWords.{laid_word}
+use Rattle.rule_soundness.specs.Fields.{s_field, a_field, b_field}
+use Rattle.rule_soundness.proofs.Grammar.{row_of}
 use Rattle.rule_match.specs.declared.binding.Binding.{Binding}
 use Rattle.rule_match.specs.Bindings.{constant_of, constant_at, target_field, is_absolute, last_target, last_absolute, gpr_of, match_of}
 use Rattle.rule_match.specs.Matching.{match_of_word, IsLaidWord, AreLaidWords, register_in, or_else, register_read}

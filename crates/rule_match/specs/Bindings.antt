@@ -2,7 +2,7 @@
 use Rattle.std.specs.Prelude.{ℕ, zero, suc, ◌-◌, ◌==◌, if◌then◌else◌, Bool, false, List, [], ◌∷◌, slice_index_or}
 use Rattle.machines.specs.Prelude.{Instr, Immediate, LogicImmediate, Load, Store, LoadUpdate, StoreUpdate, CompareImmediate, BranchConditional, Op, ebx, esi}
 use Rattle.rule_body.specs.declared.rule.Rule.{Rule}
-use Rattle.rule_meaning.specs.Prelude.{Match, slot_register, laid_ops}
+use Rattle.rule_soundness.specs.Prelude.{Match, slot_register, laid_ops}
 use Rattle.rule_match.specs.declared.binding.Binding.{Binding}
 
 -- the immediate of 16 bits of an instruction; 0 where it has none

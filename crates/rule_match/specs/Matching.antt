@@ -6,9 +6,9 @@ use Rattle.rule_body.specs.declared.goal.Goal.{Goal}
 use Rattle.rule_body.specs.declared.goal.Guest.{Guest}
 use Rattle.rule_body.specs.declared.rule.Rule.{Rule}
 use Rattle.rule_body.specs.Prelude.{slot_count, template_of}
-use Rattle.rule_meaning.specs.Prelude.{Match, base_field, IsMatchAt, AreWordsOf}
-use Rattle.rule_meaning.specs.LaidWords.{laid_word}
-use Rattle.rule_meaning.specs.Fields.{s_field, a_field, b_field}
+use Rattle.rule_soundness.specs.Prelude.{Match, base_field, IsMatchAt, AreWordsOf}
+use Rattle.rule_soundness.specs.LaidWords.{laid_word}
+use Rattle.rule_soundness.specs.Fields.{s_field, a_field, b_field}
 use Rattle.rule_match.specs.declared.binding.Binding.{Binding}
 use Rattle.rule_match.specs.Bindings.{constant_of, target_field, is_absolute, gpr_of, register_for, match_of}
 

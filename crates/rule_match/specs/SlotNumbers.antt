@@ -3,7 +3,7 @@ use Rattle.std.specs.Prelude.{◌≡◌, ℕ, ◌<◌, ◌≤◌, Bool, true, fa
 use Rattle.machines.specs.Prelude.{Map}
 use Rattle.reg_map.specs.Prelude.{slot_of}
 use Rattle.rule_body.specs.Prelude.{slot_count}
-use Rattle.rule_meaning.specs.Prelude.{slot_register}
+use Rattle.rule_soundness.specs.Prelude.{slot_register}
 
 -- each parameter stands in a slot, or at home, as the rule has it
 abbrev pub IsPlace : Bool → Option ℕ → Type 0

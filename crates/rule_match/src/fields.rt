@@ -1,8 +1,8 @@
 //! The register fields of instructions, by their bits.
 
 ghost use Rattle.std.specs.Prelude.{◌≡◌};
-ghost use Rattle.rule_meaning.specs.Prelude.{base_field as base_of};
-ghost use Rattle.rule_meaning.specs.Fields.{s_field as s_of, a_field as a_of, b_field as b_of};
+ghost use Rattle.rule_soundness.specs.Prelude.{base_field as base_of};
+ghost use Rattle.rule_soundness.specs.Fields.{s_field as s_of, a_field as a_of, b_field as b_of};
 ghost use Rattle.rule_match.specs.Matching.{register_in as register_for};
 
 use ppc_isa::{ImmediateOp, Instr, RotateOp};

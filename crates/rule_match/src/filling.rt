@@ -1,7 +1,7 @@
 //! Ops with their holes filled.
 
 ghost use Rattle.std.specs.Prelude.{◌≡◌, ◌<◌, ◌^◌};
-ghost use Rattle.rule_meaning.specs.Prelude.{hole_value as value_of, displaced as displace, filled_op as fill};
+ghost use Rattle.rule_soundness.specs.Prelude.{hole_value as value_of, displaced as displace, filled_op as fill};
 ghost use Rattle.rule_match.specs.Bindings.{constant_of as constant};
 
 use ia_codec::{Op, Operand};

@@ -2,7 +2,7 @@
 
 ghost use Rattle.std.specs.Prelude.{◌≡◌, ◌≤◌, List, IfOk};
 ghost use Rattle.machines.specs.Prelude.{Instr};
-ghost use Rattle.rule_meaning.specs.Prelude.{AreWordsOf, laid_line as line_for};
+ghost use Rattle.rule_soundness.specs.Prelude.{AreWordsOf, laid_line as line_for};
 ghost use Rattle.rule_match.specs.Bindings.{constant_at as constant, match_of, instantiated};
 
 use crate::binding::Binding;

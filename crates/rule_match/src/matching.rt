@@ -3,7 +3,7 @@
 ghost use Rattle.std.specs.Prelude.{◌≡◌, ◌≢◌, ◌↔◌, ◌≤◌, ◌<◌, ℕ, IsTrue, IfSome, [], length, slice_index_or, true};
 ghost use Rattle.machines.specs.Prelude.{IsMap};
 ghost use Rattle.rule_body.specs.Prelude.{IsGoal};
-ghost use Rattle.rule_meaning.specs.Prelude.{is_dead_name, location_named as location_for};
+ghost use Rattle.rule_soundness.specs.Prelude.{is_dead_name, location_named as location_for};
 ghost use Rattle.rule_match.specs.Bindings.{match_of, gpr_of as gpr_for};
 ghost use Rattle.rule_match.specs.Matching.{is_in, AreGprs, IsBindingAt};
 

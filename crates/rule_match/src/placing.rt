@@ -1,7 +1,7 @@
 //! Ops with the registers and homes of a binding.
 
 ghost use Rattle.std.specs.Prelude.{◌≡◌, [], ◌-◌};
-ghost use Rattle.rule_meaning.specs.Prelude.{slot_register as register_for, register_of as register, offset_of as offset_for, placed_operand as operand_for, placed as op_for};
+ghost use Rattle.rule_soundness.specs.Prelude.{slot_register as register_for, register_of as register, offset_of as offset_for, placed_operand as operand_for, placed as op_for};
 ghost use Rattle.rule_match.specs.Bindings.{match_of, gpr_of as gpr};
 
 use crate::binding::Binding;

@@ -3,7 +3,7 @@
 ghost use Rattle.std.specs.Prelude.{◌≡◌, ◌≤◌, ◌<◌, ◌+◌, ℕ, List, length, slice_index_or, if◌then◌else◌, nat_lt};
 ghost use Rattle.machines.specs.Prelude.{Instr, IsWordOf};
 ghost use Rattle.rule_body.specs.Prelude.{IsGoal, guests_of, AreGuests};
-ghost use Rattle.rule_meaning.specs.Prelude.{AreWordsOf};
+ghost use Rattle.rule_soundness.specs.Prelude.{AreWordsOf};
 ghost use Rattle.rule_match.specs.Matching.{register_in as register_for, register_read};
 
 use crate::fields::register_in;

@@ -3,7 +3,7 @@
 ghost use Rattle.std.specs.Prelude.{◌≡◌, ◌≤◌, ◌<◌, ℕ, IsTrue, MatchOption, length, option_map};
 ghost use Rattle.reg_map.specs.Prelude.{slot_of};
 ghost use Rattle.rule_body.specs.Prelude.{slot_count};
-ghost use Rattle.rule_meaning.specs.Prelude.{slot_register};
+ghost use Rattle.rule_soundness.specs.Prelude.{slot_register};
 ghost use Rattle.rule_match.specs.SlotNumbers.{ArePlaces, AreSlotNumbers, IsSlotNumber};
 
 use ppc_isa::Map;

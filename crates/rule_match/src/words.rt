@@ -2,7 +2,7 @@
 
 ghost use Rattle.std.specs.Prelude.{◌≡◌, ◌≢◌, ◌↔◌, ◌<◌, ◌≤◌, ℕ, IsTrue, if◌then◌else◌, length};
 ghost use Rattle.machines.specs.Prelude.{Instr as Instruction, layout, Allowed, IsSpr, IsWordOf, Fit};
-ghost use Rattle.rule_meaning.specs.Prelude.{base_field as base, register_field as field_for, bound as bind, filled as fill};
+ghost use Rattle.rule_soundness.specs.Prelude.{base_field as base, register_field as field_for, bound as bind, filled as fill};
 ghost use Rattle.rule_body.specs.Prelude.{IsGoal, guests_of, IsGuest};
 ghost use Rattle.rule_match.specs.Bindings.{gpr_of as gpr, target_field as target, is_absolute as absolute};
 ghost use Rattle.rule_match.specs.Matching.{match_of_word, IsLaidWord, AreLaidWords, AreGprs};

@@ -13,7 +13,7 @@ use Rattle.rule_body.specs.declared.goal.Goal.{Goal}
 use Rattle.rule_body.specs.declared.body.Body.{Body}
 use Rattle.rule_body.specs.declared.goal.Guest.{Guest as GuestWord}
 use Rattle.rule_body.specs.Prelude.{AreGuests, guests_of, template_of, IsGoal, IsBody, is_ending, is_straight, parts, accesses, IsRule}
-use Rattle.rule_meaning.specs.Prelude.{Match, laid_words, laid_ops, window, loads_of, stores_of, AccessWindow, accessed, IsConditionOf, dead_of}
+use Rattle.rule_soundness.specs.Prelude.{Match, laid_words, laid_ops, window, loads_of, stores_of, AccessWindow, accessed, IsConditionOf, dead_of}
 use Rattle.rule_renaming.specs.Plain.{plain, IsOwnMap, OneInstanceIsEnough}
 use Rattle.rule_renaming.specs.Examples.{add_goal, lea_body, AdditionIsSound}
 use Rattle.rule_renaming.proofs.Guests.{is_same}

@@ -8,7 +8,7 @@ use Rattle.machines.specs.Host.{Memory}
 use Rattle.symbolic_tiles.specs.Prelude.{Any, IsCore}
 use Rattle.symbolic_tiles.proofs.Places.{slots_apart, slot_gpr, slot_cached, home_within}
 use Rattle.symbolic_tiles.proofs.Small.{both_true}
-use Rattle.rule_meaning.specs.Prelude.{Match, register_of, offset_of}
+use Rattle.rule_soundness.specs.Prelude.{Match, register_of, offset_of}
 use Rattle.rule_renaming.proofs.Parameters.{is_parameter, is_in_slot, slot_at, par_from, par_to, Bound, Own}
 use Rattle.rule_renaming.proofs.Hosts.{IsFar, Renames, Renamed, load_alike}
 use Rattle.rule_renaming.proofs.Guests.{GuestNames, SameLocs, SameGuest}

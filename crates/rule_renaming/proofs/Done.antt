@@ -6,7 +6,7 @@ use Rattle.reg_map.specs.Prelude.{home, home_size, location_range, slot_of, in_s
 use Rattle.machines.specs.Host.{Memory}
 use Rattle.symbolic_tiles.specs.Prelude.{Any, IsCore, TilePostcondition, IsUnowned, Window}
 use Rattle.symbolic_tiles.proofs.Places.{slots_apart, slot_cached, home_within}
-use Rattle.rule_meaning.specs.Prelude.{Match, register_of, offset_of}
+use Rattle.rule_soundness.specs.Prelude.{Match, register_of, offset_of}
 use Rattle.rule_renaming.proofs.Parameters.{is_parameter, is_in_slot, slot_at, Bound, Own}
 use Rattle.rule_renaming.proofs.Hosts.{IsFar, Renamed, load_alike}
 use Rattle.rule_renaming.proofs.Guests.{SameGuest}

@@ -4,7 +4,7 @@ use Rattle.std.proofs.lemmas.Bool.Decides.{nat_tests}
 use Rattle.machines.specs.Prelude.{Outside, Outcome, Goes, Asks, Ends, GuestValues, Effect, immediate_carries, immediate_records, logic_immediate_records, carry_out, unary_carry, logic_carries, loads, stores, half_extended, half_reversed, word_reversed, sum, guest_row, update, store_big, each_byte, Rights, Guest, effect_of, guest_acts, at_next, behind, branch_target, branches, linked, results, put_cr, put_xer, put_special, cr_word, xer_word, value_a, value_b, value_s, guest_values, loaded_in, lr, ctr, Instr, Immediate, LogicImmediate, CompareImmediate, Rotate, Arithmetic, ArithmeticUnary, Logic, ShiftImmediate, LogicUnary, Compare, MoveFromCr, MoveToCr, MoveFromSpr, MoveToSpr, Sync, MoveCrField, CrLogic, Isync, Load, Store, LoadUpdate, StoreUpdate, LoadIndexed, StoreIndexed, LoadIndexedUpdate, StoreIndexedUpdate, BranchConditional, ImmediateOp, Addi, Addis, Addic, AddicRecord, Subfic, Mulli, RotateOp, Rlwinm, Rlwnm, Rlwimi, Lwz, Lbz, Lhz, Lha, Stw, Stb, Sth, Lwzx, Lbzx, Lhzx, Lhax, Lwbrx, Lhbrx, Stwx, Stbx, Sthx, Stwbrx, Sthbrx}
 use Rattle.symbolic_tiles.specs.Prelude.{loaded, stored}
 use Rattle.simulation.specs.Prelude.{then_row, rows_of}
-use Rattle.rule_meaning.specs.Prelude.{Match, base_field, register_field, count_field, bound, everywhere, behind_row, loads_of, stores_of, taken_of}
+use Rattle.rule_soundness.specs.Prelude.{Match, base_field, register_field, count_field, bound, everywhere, behind_row, loads_of, stores_of, taken_of}
 use Rattle.symbolic_tiles.proofs.Memory.{update_same, update_other}
 
 pub is_same : (x n : ℕ) → (x ≡ n) ⊎ (x ≢ n)

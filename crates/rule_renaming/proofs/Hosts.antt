@@ -6,7 +6,7 @@ use Rattle.std.proofs.lemmas.List.Elements.{Contains-append_left, Contains-appen
 use Rattle.machines.specs.Prelude.{Operand, Reg, Abs, Base, Pair, Op, AluTo, AluFrom, AluImm, TestReg, TestImm, Unary, Imul, MovTo, MovFrom, MovImm, MovToImm, MovHalfTo, MovByteTo, MovByteFrom, Shift, ShiftByCl, Lea, Extend, Bswap, Set, Cmov, Bsr, Cdq, Not, Neg, Mul, Imul1, MovzxByte, MovzxHalf, MovsxByte, MovsxHalf, Flags, HostValues, HostEffect, host_row, Outcome, update, load, store, each_byte, Rights, Choice, Core, Host, Place, Register, place_of, put_at, host_values, chosen_word, chosen_flags, has_result, extend_size, address_in, byte_for, puts_both, bind, reads, puts, leaves, does, choice_at, goes_to}
 use Rattle.machines.specs.Host.{Memory}
 use Rattle.symbolic_tiles.specs.Prelude.{is_jump, op_outcome, core_behind, perform, operand_at, op_at, span}
-use Rattle.rule_meaning.specs.Prelude.{Match, register_of, offset_of, placed_operand, placed, summed, op_loads, op_stores, accessed, accessed_behind}
+use Rattle.rule_soundness.specs.Prelude.{Match, register_of, offset_of, placed_operand, placed, summed, op_loads, op_stores, accessed, accessed_behind}
 use Rattle.row_laws.proofs.Lists.{none_in, first_in, later_in}
 use Rattle.symbolic_tiles.proofs.Memory.{update_same, update_other, store_other, store_same}
 use Rattle.machines.proofs.Stack.{each_true as each_of}

@@ -7,7 +7,7 @@ use Rattle.rule_body.specs.declared.line.Hole.{Hole}
 use Rattle.rule_body.specs.declared.line.HostLine.{HostLine}
 use Rattle.rule_body.specs.declared.operands.OpParts.{OpParts}
 use Rattle.rule_body.specs.Prelude.{is_straight, parts, operand_registers, registers, is_usable, IsHome, IsOperandFor, IsHostLine, Template, slot_count}
-use Rattle.rule_meaning.specs.Prelude.{Match, slot_register, body_slot, hole_value, offset_of, displaced, filled_op, filled_hole}
+use Rattle.rule_soundness.specs.Prelude.{Match, slot_register, body_slot, hole_value, offset_of, displaced, filled_op, filled_hole}
 use Rattle.rule_renaming.proofs.Slots.{find_slot}
 use Rattle.rule_renaming.proofs.Parameters.{slot_par, Bound}
 use Rattle.rule_renaming.proofs.Hosts.{IsOwn, IsAddress, IsWithin, IsNamed}

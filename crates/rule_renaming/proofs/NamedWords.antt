@@ -10,8 +10,8 @@ use Rattle.ppc_isa.specs.Locations.{base}
 use Rattle.row_laws.proofs.Lists.{none_in, first_in, later_in, first_or_later}
 use Rattle.rule_body.specs.declared.goal.Guest.{Guest}
 use Rattle.rule_body.specs.Prelude.{is_plain, is_ending, numbers, AreNumbered, highest, AreGuests, IsWindow, IsPlaced}
-use Rattle.rule_meaning.specs.Prelude.{Match, IsMatch, base_field, bound, filled, laid_words}
-use Rattle.rule_meaning.proofs.Grammar.{row_of}
+use Rattle.rule_soundness.specs.Prelude.{Match, IsMatch, base_field, bound, filled, laid_words}
+use Rattle.rule_soundness.proofs.Grammar.{row_of}
 use Rattle.rule_renaming.proofs.Parameters.{par_is, place_back, place_in}
 use Rattle.rule_renaming.proofs.Guests.{IsField, IsNamedWord, AreNamedWords}
 use Rattle.rule_renaming.proofs.Bridge.{P}

@@ -4,7 +4,7 @@ use Rattle.std.proofs.lemmas.Bool.Decides.{nat_tests}
 use Rattle.std.proofs.lemmas.Option.{slice_get-get_or, slice_get_within, get_or_from_slice_get}
 use Rattle.machines.specs.Prelude.{Instr, Map, IsMap}
 use Rattle.reg_map.specs.Prelude.{slot_of}
-use Rattle.rule_meaning.specs.Prelude.{Match, IsMatch, body_slot}
+use Rattle.rule_soundness.specs.Prelude.{Match, IsMatch, body_slot}
 use Rattle.rule_renaming.specs.Plain.{IsOwnMap}
 
 -- p is the number of a parameter, and it stands in a slot

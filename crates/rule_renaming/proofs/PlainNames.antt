@@ -5,7 +5,7 @@ use Rattle.machines.specs.Prelude.{Operand, Reg, Abs, Base, Pair, Op, AluTo, Alu
 use Rattle.rule_body.specs.declared.goal.Guest.{Guest}
 use Rattle.rule_body.specs.declared.line.Hole.{Hole}
 use Rattle.rule_body.specs.declared.line.HostLine.{HostLine}
-use Rattle.rule_meaning.specs.Prelude.{Match, register_field, bound, filled, laid_words, register_of, offset_of, placed_operand, placed, filled_hole, laid_line}
+use Rattle.rule_soundness.specs.Prelude.{Match, register_field, bound, filled, laid_words, register_of, offset_of, placed_operand, placed, filled_hole, laid_line}
 use Rattle.rule_renaming.specs.Plain.{plain}
 use Rattle.rule_renaming.proofs.Guests.{IsNamedWord, AreNamedWords}
 use Rattle.rule_renaming.proofs.Bridge.{P}

@@ -7,7 +7,7 @@ use Rattle.machines.specs.Prelude.{Map, IsHeld}
 use Rattle.ppc_isa.specs.Map.{AreApart}
 use Rattle.reg_map.specs.Prelude.{holds, slot_of}
 use Rattle.rule_body.specs.Prelude.{slot_count}
-use Rattle.rule_meaning.specs.Prelude.{slot_register}
+use Rattle.rule_soundness.specs.Prelude.{slot_register}
 use Rattle.rule_renaming.specs.Plain.{IsOwnMap}
 
 one_more : (slots : List Bool) → slot_count (true ∷ slots) ≡ 1 + slot_count slots

@@ -8,9 +8,9 @@ use Rattle.symbolic_tiles.specs.Prelude.{op_at, perform, Window, TilePreconditio
 use Rattle.simulation.specs.Prelude.{rows_of}
 use Rattle.rule_body.specs.declared.line.HostLine.{HostLine}
 use Rattle.rule_body.specs.Prelude.{Template, guests_of, template_of, lines_of, IsHostLine}
-use Rattle.rule_meaning.specs.Prelude.{Match, bound, laid_words, placed, filled_hole, laid_line, laid_ops, window, loads_of, stores_of, AccessWindow, HaveAccess, dead_of}
-use Rattle.rule_meaning.proofs.Grammar.{has_take, rule_words}
-use Rattle.rule_meaning.proofs.Passing.{AreRuleWords, Passed, next_of, words_passed}
+use Rattle.rule_soundness.specs.Prelude.{Match, bound, laid_words, placed, filled_hole, laid_line, laid_ops, window, loads_of, stores_of, AccessWindow, HaveAccess, dead_of}
+use Rattle.rule_soundness.proofs.Grammar.{has_take, rule_words}
+use Rattle.rule_soundness.proofs.Passing.{AreRuleWords, Passed, next_of, words_passed}
 use Rattle.rule_renaming.specs.Plain.{plain, OneInstanceIsEnough}
 use Rattle.rule_renaming.proofs.Parameters.{Bound, bound_of, Own, own_of}
 use Rattle.rule_renaming.proofs.Hosts.{Both, Renamed, AreNamed, AreAway, DoSame, ops_renamed}

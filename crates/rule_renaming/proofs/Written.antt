@@ -9,7 +9,7 @@ use Rattle.row_laws.proofs.Lists.{none_in, first_in, later_in, first_or_later, i
 use Rattle.symbolic_tiles.proofs.Small.{both_true}
 use Rattle.rule_body.specs.declared.goal.Goal.{Goal}
 use Rattle.rule_body.specs.Prelude.{named}
-use Rattle.rule_meaning.specs.Prelude.{Match, register_field, bound, is_dead_name, location_named, dead_of}
+use Rattle.rule_soundness.specs.Prelude.{Match, register_field, bound, is_dead_name, location_named, dead_of}
 use Rattle.rule_renaming.specs.Plain.{plain}
 use Rattle.rule_renaming.proofs.Guests.{GuestNames, IsNamedWord, AreNamedWords}
 

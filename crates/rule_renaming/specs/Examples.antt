@@ -6,7 +6,7 @@ use Rattle.rule_body.specs.declared.goal.Goal.{Goal}
 use Rattle.rule_body.specs.declared.body.Body.{Body}
 use Rattle.rule_body.specs.declared.rule.Rule.{Rule}
 use Rattle.rule_body.specs.Prelude.{no_line, AreRising, IsRule}
-use Rattle.rule_meaning.specs.Prelude.{IsSound}
+use Rattle.rule_soundness.specs.Prelude.{IsSound}
 
 -- the window is the word 0x7c221a14, add 1,2,3; its three parameters are in slots, and nothing is dead
 abbrev pub add_goal : Goal

@@ -4,7 +4,7 @@ use Rattle.machines.specs.Prelude.{Instr, Map, IsMap, Condition}
 use Rattle.reg_map.specs.Prelude.{slot_of}
 use Rattle.rule_body.specs.declared.rule.Rule.{Rule}
 use Rattle.rule_body.specs.Prelude.{IsRule, IsWindow, guests_of, template_of}
-use Rattle.rule_meaning.specs.Prelude.{Match, body_slot, IsConditionOf, IsSoundAt, IsSound}
+use Rattle.rule_soundness.specs.Prelude.{Match, body_slot, IsConditionOf, IsSoundAt, IsSound}
 
 -- the match with these constants and this target that gives each parameter the GPR of its own number, and leaves each register
 -- of the body as it is

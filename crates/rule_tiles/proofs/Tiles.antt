@@ -6,9 +6,9 @@ use Rattle.symbolic_tiles.specs.Prelude.{Implements}
 use Rattle.simulation.specs.Prelude.{behind_all, SimulationContext, IsTile, AreWordsAt, IsInside, IsUnneeded, IsTranslation, SimulationAdvances, at_block}
 use Rattle.rule_body.specs.declared.rule.Rule.{Rule}
 use Rattle.rule_body.specs.Prelude.{lines_of}
-use Rattle.rule_meaning.specs.Prelude.{Match, laid_line, laid_ops, window, taken_of, IsConditionOf, dead_of, ops_of_rule, target_of}
-use Rattle.rule_meaning.proofs.Passing.{AreRuleWords, words_passed, linked_of}
-use Rattle.rule_meaning.proofs.Grammar.{has_take, rule_words}
+use Rattle.rule_soundness.specs.Prelude.{Match, laid_line, laid_ops, window, taken_of, IsConditionOf, dead_of, ops_of_rule, target_of}
+use Rattle.rule_soundness.proofs.Passing.{AreRuleWords, words_passed, linked_of}
+use Rattle.rule_soundness.proofs.Grammar.{has_take, rule_words}
 use Rattle.rule_tiles.specs.Laws.{window_at, StandWords, IsLaid, IsDeadAt, tile_of, branch_tile_of, RuleIsTile, RuleIsBranchTile, RuleKeeps, RuleBranchKeeps}
 
 some_words : (forks : Bool) (words : List Instr) → AreRuleWords forks words → 0 < length words

@@ -5,7 +5,7 @@ use Rattle.symbolic_tiles.specs.Prelude.{Window, OpsAt}
 use Rattle.simulation.specs.Prelude.{behind_all, SimulationContext, IsWordAt, ForksAt, MatchesState, PlanStep, Tile, BranchTile, word_count, room, HasFewMoves, EdgeAt, BlockAt, Simulates}
 use Rattle.rule_body.specs.declared.rule.Rule.{Rule}
 use Rattle.rule_body.specs.Prelude.{IsRule}
-use Rattle.rule_meaning.specs.Prelude.{Match, laid_ops, window, IsSound, IsConditionOf, dead_of, ops_of_rule, IsMatchAt, target_of}
+use Rattle.rule_soundness.specs.Prelude.{Match, laid_ops, window, IsSound, IsConditionOf, dead_of, ops_of_rule, IsMatchAt, target_of}
 
 -- the window of the instructions at which a rule matches, with its dead locations dead behind it
 abbrev pub window_at : Rule → List Instr → Match → Option Condition → Window

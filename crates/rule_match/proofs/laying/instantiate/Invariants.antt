@@ -1,6 +1,6 @@
 use Rattle.std.proofs.Common.{◌≡◌, List, map, take}
 use Rattle.machines.specs.Prelude.{Instr}
-use Rattle.rule_meaning.specs.Prelude.{AreWordsOf, laid_line}
+use Rattle.rule_soundness.specs.Prelude.{AreWordsOf, laid_line}
 use Rattle.rule_match.specs.Bindings.{match_of}
 use Rattle.rule_match.proofs.laying.instantiate.Given as goal
 

@@ -1,5 +1,5 @@
 use Rattle.std.proofs.Common.{◌≡◌, ℕ, ◌<◌, true, []}
-use Rattle.rule_meaning.specs.Prelude.{is_dead_name, location_named}
+use Rattle.rule_soundness.specs.Prelude.{is_dead_name, location_named}
 use Rattle.rule_match.specs.Bindings.{match_of}
 use Rattle.rule_match.specs.Matching.{is_in}
 use Rattle.rule_match.proofs.matching.are_dead.Given as goal

@@ -1,7 +1,7 @@
 use Rattle.std.proofs.Common.{◌≡◌, List, drop}
 use Rattle.machines.specs.Prelude.{Instr}
 use Rattle.rule_body.specs.Prelude.{guests_of, AreGuests}
-use Rattle.rule_meaning.specs.Prelude.{AreWordsOf}
+use Rattle.rule_soundness.specs.Prelude.{AreWordsOf}
 use Rattle.rule_match.specs.Matching.{register_read}
 use Rattle.rule_match.proofs.reading.gpr_at.Given as goal
 

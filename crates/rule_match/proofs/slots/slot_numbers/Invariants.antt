@@ -1,7 +1,7 @@
 use Rattle.std.proofs.Common.{◌≡◌, ℕ, ◌<◌, ◌≤◌, true, false, Some, None, length, take, slice_get, slice_index_or}
 use Rattle.reg_map.specs.Prelude.{slot_of}
 use Rattle.rule_body.specs.Prelude.{slot_count}
-use Rattle.rule_meaning.specs.Prelude.{slot_register}
+use Rattle.rule_soundness.specs.Prelude.{slot_register}
 use Rattle.rule_match.proofs.slots.slot_numbers.Given as goal
 
 abbrev pub invariant-loop-place : goal.invariant-loop-place

@@ -1,6 +1,6 @@
 use Rattle.std.proofs.Common.{sym, ap, ◌∙◌, subst}
 use Rattle.machines.specs.Prelude.{layout, Fit}
-use Rattle.rule_meaning.specs.Prelude.{bound, filled}
+use Rattle.rule_soundness.specs.Prelude.{bound, filled}
 use Rattle.rule_match.specs.Bindings.{gpr_of}
 use Rattle.rule_match.specs.Matching.{match_of_word}
 use Rattle.rule_match.proofs.LaidInstr.{constant_fits, target_fits, filled_fits, bound_fits}

@@ -2,7 +2,7 @@
 use Rattle.std.specs.Prelude.{ℕ, ◌+◌, ◌==◌, if◌then◌else◌, List, [], ◌∷◌}
 use Rattle.machines.specs.Prelude.{Instr, Immediate, LogicImmediate, Load, Store, LoadUpdate, StoreUpdate, CompareImmediate, Rotate, Arithmetic, ArithmeticUnary, Logic, ShiftImmediate, LogicUnary, Compare, MoveFromCr, MoveToCr, MoveFromSpr, MoveToSpr, LoadIndexed, StoreIndexed, LoadIndexedUpdate, StoreIndexedUpdate, BranchConditional, RotateOp, Rlwnm}
 use Rattle.rule_body.specs.declared.goal.Guest.{Guest}
-use Rattle.rule_meaning.specs.Matches.{Match}
+use Rattle.rule_soundness.specs.Matches.{Match}
 
 -- the register of a field; 0 stays 0
 abbrev pub register_field : (ℕ → ℕ) → ℕ → ℕ

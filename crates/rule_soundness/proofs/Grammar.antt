@@ -4,9 +4,9 @@ use Rattle.machines.specs.Prelude.{IsWordOf, HasOneInstruction, bo_0, bo_2, Inst
 use Rattle.rule_body.specs.declared.goal.Guest.{Guest}
 use Rattle.rule_body.specs.declared.rule.Rule.{Rule}
 use Rattle.rule_body.specs.Prelude.{is_plain, is_ending, is_open, IsGuest, AreGuests, AreStraight, IsWindow, guests_of, IsTake, IsRule}
-use Rattle.rule_meaning.specs.Prelude.{Match, bound, filled, laid_words}
-use Rattle.rule_meaning.proofs.Rows.{is_fork}
-use Rattle.rule_meaning.proofs.Passing.{AreRuleWords}
+use Rattle.rule_soundness.specs.Prelude.{Match, bound, filled, laid_words}
+use Rattle.rule_soundness.proofs.Rows.{is_fork}
+use Rattle.rule_soundness.proofs.Passing.{AreRuleWords}
 
 -- an instruction with an open immediate is a plain one
 open_plain : (i : Instr) → is_open i ≡ true → is_plain i ≡ true

@@ -2,7 +2,7 @@
 use Rattle.std.proofs.Common.{refl}
 use Rattle.machines.specs.Prelude.{Add, Or, Adc, Sbb, And, Sub, Xor, Cmp, Rol, Ror, Shl, Shr, Sar, MovzxByte, MovzxHalf, MovsxByte, MovsxHalf, Not, Neg, Mul, Imul1, AluTo, AluFrom, AluImm, TestReg, TestImm, Unary, Imul, MovTo, MovFrom, MovImm, MovToImm, MovHalfTo, MovByteTo, MovByteFrom, Shift, ShiftByCl, Lea, Extend, Bswap, Set, Cmov, Bsr, Cdq}
 use Rattle.rule_body.specs.Prelude.{is_straight}
-use Rattle.rule_meaning.specs.Prelude.{OpsHaveShapes, OpsLeaveAtMost}
+use Rattle.rule_soundness.specs.Prelude.{OpsHaveShapes, OpsLeaveAtMost}
 
 pub ops_have_shapes : OpsHaveShapes
 unfolding is_straight

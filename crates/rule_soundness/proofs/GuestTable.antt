@@ -2,8 +2,8 @@
 use Rattle.std.proofs.Common.{◌≡◌, ℕ, Bool, true, false, cond, ◌==◌, not, ◌||◌, refl, ap, arith}
 use Rattle.std.proofs.lemmas.Bool.Decides.{nat_tests}
 use Rattle.machines.specs.Prelude.{Goes, Effect, update, lr, ctr, puts_xer, put_xer, at_next, Immediate, LogicImmediate, Load, Store, LoadUpdate, StoreUpdate, CompareImmediate, Rotate, Arithmetic, ArithmeticUnary, Logic, ShiftImmediate, LogicUnary, Compare, MoveFromCr, MoveToCr, MoveFromSpr, MoveToSpr, Sync, LoadIndexed, StoreIndexed, LoadIndexedUpdate, StoreIndexedUpdate, MoveCrField, CrLogic, Isync, Addi, Addis, Addic, AddicRecord, Subfic, Mulli, Ori, Oris, Xori, Xoris, Andi, Andis, Cmpi, Cmpli, Rlwinm, Rlwnm, Rlwimi, Lwz, Lbz, Lhz, Lha, Lwzu, Lbzu, Lhzu, Lhau, Lwzx, Lbzx, Lhzx, Lhax, Lwbrx, Lhbrx, Lwzux, Lbzux, Lhzux, Lhaux}
-use Rattle.rule_meaning.specs.Prelude.{RowsReadFields, RowsPutFields, AccessesPutFields, BranchesPutFields, LoadsHaveWidths}
-use Rattle.rule_meaning.proofs.Rows.{immediate_kind, arithmetic_kind, arithmetic_unary_kind, logic_kind, logic_unary_kind, compare_kind, compare_immediate_kind, store_kind, store_update_kind, store_indexed_kind, store_indexed_update_kind}
+use Rattle.rule_soundness.specs.Prelude.{RowsReadFields, RowsPutFields, AccessesPutFields, BranchesPutFields, LoadsHaveWidths}
+use Rattle.rule_soundness.proofs.Rows.{immediate_kind, arithmetic_kind, arithmetic_unary_kind, logic_kind, logic_unary_kind, compare_kind, compare_immediate_kind, store_kind, store_update_kind, store_indexed_kind, store_indexed_update_kind}
 
 one_of : (spr : ℕ) → (spr == 1) ≡ true → (spr == 8) ≡ false
 one_of spr h = grind (arith, nat_tests)

@@ -2,7 +2,7 @@
 use Rattle.std.proofs.Common.{◌≡◌, ℕ, Bool, true, false, not, cond, refl}
 use Rattle.machines.specs.Prelude.{Outside, Goes, Ends, GuestValues, NoAccess, LoadAccess, StoreAccess, guest_row, each_byte, Rights, Guest, effect_of, guest_acts, behind, Instr, Immediate, LogicImmediate, Load, Store, LoadUpdate, StoreUpdate, CompareImmediate, Rotate, Arithmetic, ArithmeticUnary, Logic, ShiftImmediate, LogicUnary, Compare, MoveFromCr, MoveToCr, MoveFromSpr, MoveToSpr, Sync, LoadIndexed, StoreIndexed, LoadIndexedUpdate, StoreIndexedUpdate, MoveCrField, CrLogic, Isync, Multiple, TrapImmediate, Branch, BranchConditional, SystemCall, Trap, BranchRegister, ArithmeticOp, ArithmeticUnaryOp, CompareImmediateOp, CompareOp, ImmediateOp, LoadIndexedOp, LoadIndexedUpdateOp, LoadOp, LoadUpdateOp, LogicOp, LogicUnaryOp, StoreIndexedOp, StoreIndexedUpdateOp, StoreOp, StoreUpdateOp, Addi, Addis, Addic, AddicRecord, Subfic, Mulli, Lwz, Lbz, Lhz, Lha, Stw, Stb, Sth, Lwzu, Lbzu, Lhzu, Lhau, Stwu, Stbu, Sthu, Cmpi, Cmpli, Add, Addc, Adde, Subf, Subfc, Subfe, Mullw, Mulhw, Mulhwu, Divw, Divwu, Addze, Addme, Subfze, Subfme, Neg, And, Or, Xor, Nand, Nor, Eqv, Andc, Orc, Slw, Srw, Sraw, Cntlzw, Extsb, Extsh, Cmp, Cmpl, Lwzx, Lbzx, Lhzx, Lhax, Lwbrx, Lhbrx, Stwx, Stbx, Sthx, Stwbrx, Sthbrx, Lwzux, Lbzux, Lhzux, Lhaux, Stwux, Stbux, Sthux}
 use Rattle.rule_body.specs.Prelude.{is_plain}
-use Rattle.rule_meaning.specs.Prelude.{target_at}
+use Rattle.rule_soundness.specs.Prelude.{target_at}
 
 -- What an instruction's row does, whatever the rights: it goes on; or it loads, or stores, and goes on where its bytes are
 -- inside, else it ends outside. Behind it the next word is at this address.

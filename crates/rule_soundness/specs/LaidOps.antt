@@ -5,7 +5,7 @@ use Rattle.rule_body.specs.declared.body.Body.{Body}
 use Rattle.rule_body.specs.declared.line.Hole.{Hole}
 use Rattle.rule_body.specs.declared.line.HostLine.{HostLine}
 use Rattle.rule_body.specs.Prelude.{lines_of}
-use Rattle.rule_meaning.specs.Matches.{Match, hole_value}
+use Rattle.rule_soundness.specs.Matches.{Match, hole_value}
 
 -- eax, ecx and edx stay
 abbrev pub register_of : Match → ℕ → ℕ

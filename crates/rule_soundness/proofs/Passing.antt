@@ -5,11 +5,11 @@ use Rattle.std.proofs.lemmas.List.Elements.{Contains-append_cases}
 use Rattle.machines.specs.Prelude.{Outside, Outcome, Goes, Asks, Ends, Instr, each_byte, Rights, Guest, effect_of, guest_acts, behind}
 use Rattle.symbolic_tiles.specs.Prelude.{loaded, stored, IsStraight}
 use Rattle.simulation.specs.Prelude.{then_row, rows_of, behind_all, IsQuiet, IsLinked}
-use Rattle.rule_meaning.specs.Prelude.{everywhere, behind_row, loads_of, stores_of, taken_of, target_of}
+use Rattle.rule_soundness.specs.Prelude.{everywhere, behind_row, loads_of, stores_of, taken_of, target_of}
 use Rattle.rule_body.specs.Prelude.{is_plain}
 use Rattle.row_laws.proofs.Lists.{none_in}
 use Rattle.symbolic_tiles.proofs.Straight.{all_in_span}
-use Rattle.rule_meaning.proofs.Rows.{is_fork, RowShape, calm, loading, storing, plain_shape, fork_shape}
+use Rattle.rule_soundness.proofs.Rows.{is_fork, RowShape, calm, loading, storing, plain_shape, fork_shape}
 
 -- the words of a rule, of which there is one at least: all are plain, but the last is a branch where that is said
 abbrev pub AreRuleWords : Bool → List Instr → Type 0

@@ -6,11 +6,11 @@ use Rattle.symbolic_tiles.specs.Prelude.{op_at, Window, Implements}
 use Rattle.rule_body.specs.declared.goal.Goal.{Goal}
 use Rattle.rule_body.specs.declared.rule.Rule.{Rule}
 use Rattle.rule_body.specs.Prelude.{IsWindow, named, guests_of, template_of}
-use Rattle.rule_meaning.specs.Matches.{Match, IsMatch}
-use Rattle.rule_meaning.specs.LaidWords.{laid_words}
-use Rattle.rule_meaning.specs.LaidOps.{laid_ops}
-use Rattle.rule_meaning.specs.Windows.{window}
-use Rattle.rule_meaning.specs.Accesses.{AccessWindow}
+use Rattle.rule_soundness.specs.Matches.{Match, IsMatch}
+use Rattle.rule_soundness.specs.LaidWords.{laid_words}
+use Rattle.rule_soundness.specs.LaidOps.{laid_ops}
+use Rattle.rule_soundness.specs.Windows.{window}
+use Rattle.rule_soundness.specs.Accesses.{AccessWindow}
 
 -- the location of a name of what may be dead: that of a parameter is its GPR
 abbrev pub location_named : Match → ℕ → ℕ

@@ -3,7 +3,7 @@
 use Rattle.std.specs.Prelude.{◌≡◌, ℕ, ◌*◌, ◌==◌, if◌then◌else◌, Bool, true, false, not, ◌||◌, Option, Some, None}
 use Rattle.machines.specs.Prelude.{sign_extended, Outside, Goes, Ends, Instr, Immediate, LogicImmediate, Load, Store, LoadUpdate, StoreUpdate, TrapImmediate, CompareImmediate, Rotate, BranchConditional, Arithmetic, ArithmeticUnary, Logic, ShiftImmediate, LogicUnary, Compare, Trap, MoveFromCr, MoveToCr, MoveFromSpr, MoveToSpr, LoadIndexed, StoreIndexed, LoadIndexedUpdate, StoreIndexedUpdate, MoveCrField, CrLogic, Rlwnm, Addis, Ori, Xori, Andi, Cmpli, LoadOp, Lwz, Lbz, Lhz, Lha, LoadUpdateOp, Lwzu, Lbzu, Lhzu, Lhau, LoadIndexedOp, Lwzx, Lbzx, Lhzx, Lhax, Lwbrx, Lhbrx, LoadIndexedUpdateOp, Lwzux, Lbzux, Lhzux, Lhaux, immediate_carries, immediate_records, carry_out, unary_carry, logic_immediate_records, logic_carries, Effect, GuestValues, LoadAccess, guest_row, Rights, update, store_big, each_byte, Guest, lr, ctr, puts_cr, puts_xer, branches, at_next, guest_acts, value_a, value_b, value_s}
 use Rattle.rule_body.specs.Prelude.{is_plain, has_access}
-use Rattle.rule_meaning.specs.Laid.{target_at}
+use Rattle.rule_soundness.specs.Laid.{target_at}
 
 -- the register of bits 11 to 15
 abbrev pub a_field : Instr → Option ℕ

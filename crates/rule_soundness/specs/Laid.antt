@@ -3,9 +3,9 @@ use Rattle.std.specs.Prelude.{◌≡◌, ℕ, Bool, true, List, [], ◌∷◌}
 use Rattle.machines.specs.Prelude.{Instr, BranchConditional, Map, IsWordOf, IsMap, behind, branch_target}
 use Rattle.rule_body.specs.declared.rule.Rule.{Rule}
 use Rattle.rule_body.specs.Prelude.{IsWindow, guests_of, template_of}
-use Rattle.rule_meaning.specs.Matches.{Match, IsMatch}
-use Rattle.rule_meaning.specs.LaidWords.{laid_words}
-use Rattle.rule_meaning.specs.Sound.{dead_of}
+use Rattle.rule_soundness.specs.Matches.{Match, IsMatch}
+use Rattle.rule_soundness.specs.LaidWords.{laid_words}
+use Rattle.rule_soundness.specs.Sound.{dead_of}
 
 -- The rule matches at these instructions, under a map, where these locations are dead behind them: its window with the GPRs of
 -- the match in the place of parameters, and with its constants and its target, are these; and each dead name is dead.

@@ -1,7 +1,7 @@
 //! The tables of rows and of ops are the machines'. Each law is the contract of a function that does nothing.
 
-ghost use Rattle.rule_meaning.specs.Fields.{RowsReadFields, RowsPutFields, AccessesPutFields, BranchesPutFields, LoadsHaveWidths};
-ghost use Rattle.rule_meaning.specs.Shapes.{OpsHaveShapes, OpsLeaveAtMost};
+ghost use Rattle.rule_soundness.specs.Fields.{RowsReadFields, RowsPutFields, AccessesPutFields, BranchesPutFields, LoadsHaveWidths};
+ghost use Rattle.rule_soundness.specs.Shapes.{OpsHaveShapes, OpsLeaveAtMost};
 
 /// A row that may stand in a window reads the registers and the immediate that the table says, puts what the table says,
 /// and loads as many bytes.

@@ -1,5 +1,0 @@
-use Rattle.rule_meaning.proofs.HostTable.{ops_have_shapes, ops_leave_at_most}
-use Rattle.rule_meaning.proofs.laws.ops_have_shapes.Goals as goal
-
-pub returns : goal.returns
-returns c = record { shapes = ops_have_shapes; leaves = ops_leave_at_most }

@@ -1,0 +1,4 @@
+pub mod Accesses
+pub mod Guests
+pub mod Hosts
+pub mod Inputs
