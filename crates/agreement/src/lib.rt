@@ -7,7 +7,10 @@ ghost use Rattle.agreement.specs.Written.{CarryingIsPlain, CarryingAgrees};
 use laid_code::{blocks_stand, entries_are_addresses, hold_stands, tables_stand};
 use machines::agrees_if_narrowly;
 use simulation::agrees;
-use upkeep::{all_live_is_enough, has_home, host_keeps_unwritten, loaded_has_bytes, starts};
+use upkeep::{
+    all_live_is_enough, guests_stay_guests, has_home, host_keeps_unwritten, loaded_has_bytes,
+    starts,
+};
 
 /// A program that carries another's plans agrees with it, whichever registers hold GPRs where blocks begin
 /// and whatever is live there, as long as what isn't live makes no difference.
@@ -18,6 +21,7 @@ pub fn plans_agree()
     agrees_if_narrowly();
     tables_stand();
     has_home();
+    guests_stay_guests();
     host_keeps_unwritten();
     starts();
 }

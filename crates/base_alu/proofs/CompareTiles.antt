@@ -31,7 +31,7 @@ module _ (i : Instr) (f : ℕ) (s : Bool) (x y : Guest → ℕ) (lf : f < 8) whe
   abbrev pub compares : Guest → Guest
   compares g = at_next (put_cr (with_field (cr_word g.locs) f (is_less (x g) (y g) s) (is_less (y g) (x g) s) (eqb (x g) (y g)) (so (values_in i g))) g.locs) g
 
-  pub compare_does : (ops : List SymbolicOp) → IsLegal i → AreWellFormed ops → room_of (ops ++ field_ops f (less_condition s)) ≤ 631 → ((guest : Rights) (g : Guest) → guest_acts guest i (effect_of i g) g ≡ Goes (compares g)) →
+  pub compare_does : (ops : List SymbolicOp) → IsLegal i → AreWellFormed ops → room_of (ops ++ field_ops f (less_condition s)) ≤ 595 → ((guest : Rights) (g : Guest) → guest_acts guest i (effect_of i g) g ≡ Goes (compares g)) →
       ((guest host : Rights) (g : Guest) (regs : ℕ → ℕ) (flags : Flags) (choices : List Choice) → AreInRange g → (x g < 2 ^ 32) × (y g < 2 ^ 32) × Then (HasFlags (x g) (y g) g) (execute_ops guest host ops choices (state_of g regs flags))) →
       IsTileOf i (ops ++ field_ops f (less_condition s))
   compare_does ops legal are short row run =

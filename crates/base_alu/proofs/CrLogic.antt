@@ -104,7 +104,7 @@ operation_are Crorc = (tt, ((tt, tt), tt))
 set_are : (d : ℕ) → d < 32 → AreWellFormed (set_bit d)
 set_are d h = ((tt, omega arith), ((tt, omega arith), ((tt, (omega arith, omega arith)), ((tt, omega arith), ((tt, tt), (((omega arith, omega arith), tt), tt))))))
 
-short : (op : CrLogicOp) (d a b : ℕ) → room_of (cr_ops op d a b) ≤ 631
+short : (op : CrLogicOp) (d a b : ℕ) → room_of (cr_ops op d a b) ≤ 595
 short Crand d a b = omega arith
 short _ d a b = omega arith
 

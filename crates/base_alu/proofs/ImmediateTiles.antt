@@ -17,7 +17,7 @@ base_are : (z : Bool) (d a v : ℕ) → d < 32 → a < 32 → v < 2 ^ 32 → Are
 base_are true d a v ld la lv = ((tt, lv), ((word d ld, tt), tt))
 base_are false d a v ld la lv = ((tt, word a la), ((tt, lv), ((word d ld, tt), tt)))
 
-base_few : (z : Bool) (d a v : ℕ) → room_of (base_ops z d a v) ≤ 570
+base_few : (z : Bool) (d a v : ℕ) → room_of (base_ops z d a v) ≤ 534
 base_few true d a v = omega arith
 base_few false d a v = omega arith
 

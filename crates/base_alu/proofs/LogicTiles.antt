@@ -112,7 +112,7 @@ no_bit (suc n) x h = by_bit (bit_of x n) refl (no_bit n x)
         small q u d s l = let z : q * u ≡ 0 * u = ap (λ k. k * u) d in omega arith
 
 module _ (op : LogicUnaryOp) (s a : ℕ) (records : Bool) (legal : IsLegal (LogicUnary op s a records)) where
-  logic_unary_do : (ops : List SymbolicOp) → AreWellFormed ops → room_of ops ≤ 570 → OpsGive (LogicUnary op s a records) a false records (λ g. (logic_unary_row op records (values_in (LogicUnary op s a records) g)).a) (λ g. false) (legal.fit.1.1.0) ops → IsTileOf (LogicUnary op s a records) (ops ++ record_ops records)
+  logic_unary_do : (ops : List SymbolicOp) → AreWellFormed ops → room_of ops ≤ 534 → OpsGive (LogicUnary op s a records) a false records (λ g. (logic_unary_row op records (values_in (LogicUnary op s a records) g)).a) (λ g. false) (legal.fit.1.1.0) ops → IsTileOf (LogicUnary op s a records) (ops ++ record_ops records)
   logic_unary_do ops are short run = results_do (LogicUnary op s a records) a false records _ _ (legal.fit.1.1.0) ops legal are short (λ guest g. refl) (λ g. logic_unary_gives op records (values_in (LogicUnary op s a records) g)) run
 
 zeros_small : (n x : ℕ) → leading_zeros n x ≤ 32

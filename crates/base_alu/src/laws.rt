@@ -17,7 +17,7 @@ pub fn tiles_are_placeable()
     ensures { TilesArePlaceable }
 {}
 
-/// No tile has more than 128 ops, nor more than 631 bytes.
+/// No tile has more than 128 ops, nor more than 595 bytes.
 pub fn tiles_are_short()
     ensures { TilesAreShort }
 {}

@@ -17,7 +17,7 @@ use crate::specials::{move_from_special, move_to_special};
 use ia_codec::Op;
 use ppc_isa::{Instr, Map, immediate_records, logic_immediate_records};
 use std::alloc::{AllocError, Global};
-use symbolic_tiles::ops_of;
+use symbolic_tiles::{SymbolicOp, ops_of};
 use word_kit::NoMemory;
 
 /// The tile of the instruction under the map: at most 128 ops, whose absolute operands are offsets in
@@ -78,7 +78,11 @@ pub fn is_built(instr: &Instr) -> bool
     )
 }
 
-fn symbolic_tile(alloc: Global, instr: &Instr) -> Ops
+/// The tile of the instruction, told without a map. It is no flow word and has no access.
+///
+/// # Errors
+/// Where there is no memory for the ops.
+pub fn symbolic_tile(alloc: Global, instr: &Instr) -> Result<Vec<SymbolicOp>, AllocError>
     requires legal { IsLegal instr.now }
     requires built { IsBuilt instr.now }
     ensures { IfOk result (λ ops. ops.items ≡ symbolic_tile_of instr.now) }

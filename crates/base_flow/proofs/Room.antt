@@ -45,7 +45,7 @@ traps_room to next compared h = by_none (eqb to 0)
         let w4 = when_room (bit_of to 4) Less t4 in
         omega (arith, e, h, w0, w1, w2, w3, w4)
 
-sc_room : (next : ℕ) → items_room (selection_items next) ≤ 631
+sc_room : (next : ℕ) → items_room (selection_items next) ≤ 595
 unfolding selection_items request_items answer_items success_items failure_items error_items done_items
 sc_room next = omega arith
 

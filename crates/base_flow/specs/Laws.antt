@@ -22,7 +22,7 @@ FlowTilesAreLaid = (i : Instr) (m : Map) (at : ℕ) → IsLegal i → IsMap m �
 
 -- and a tile's bytes have room
 abbrev pub FlowTilesAreShort : Type 0
-FlowTilesAreShort = (i : Instr) (m : Map) (at : ℕ) → flows_room (tile i at m) ≤ 631
+FlowTilesAreShort = (i : Instr) (m : Map) (at : ℕ) → flows_room (tile i at m) ≤ 595
 
 -- a built instruction is a flow word that has a tile where no GPR is in ebx
 abbrev pub BuiltHaveTiles : Type 0

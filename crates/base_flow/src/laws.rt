@@ -22,7 +22,7 @@ pub fn flow_tiles_are_laid()
     ensures { FlowTilesAreLaid }
 {}
 
-/// No tile has more than 631 bytes, its edges' moves included.
+/// No tile has more than 595 bytes, its edges' moves included.
 pub fn flow_tiles_are_short()
     ensures { FlowTilesAreShort }
 {}

@@ -114,7 +114,7 @@ put_short : (u : Bool) (d a : ℕ) → room_of (put_ops u d a) ≤ 12
 put_short true d a = omega arith
 put_short false d a = omega arith
 
-whole_short : (xs ys zs : List SymbolicOp) → room_of xs ≤ 12 → room_of ys ≤ 25 → room_of zs ≤ 12 → room_of (xs ++ (ys ++ zs)) ≤ 631
+whole_short : (xs ys zs : List SymbolicOp) → room_of xs ≤ 12 → room_of ys ≤ 25 → room_of zs ≤ 12 → room_of (xs ++ (ys ++ zs)) ≤ 595
 whole_short xs ys zs lx ly lz = let e = room_append xs (ys ++ zs) in let f = room_append ys zs in omega (arith, e, f, lx, ly, lz)
 
 updated_fields : (u : Bool) (a A : ℕ) (l : ℕ → ℕ) → a < 32 → AreFields l → AreFields (updated u a A l)

@@ -81,7 +81,7 @@ unfolding lmw_ops
 lmw_are zero d le = tt
 lmw_are (suc n) d le = both_ops (one_load (31 - n) d) (lmw_ops n d) ((tt, tt, omega arith), (tt, ((omega arith, tt), tt))) (lmw_are n d (omega arith))
 
-lmw_short : (n d : ℕ) → room_of (lmw_ops n d) ≤ 19 * n
+lmw_short : (n d : ℕ) → room_of (lmw_ops n d) ≤ 18 * n
 unfolding lmw_ops
 lmw_short zero d = omega arith
 lmw_short (suc n) d = let h = lmw_short n d in omega (arith, h)
@@ -164,7 +164,7 @@ unfolding stmw_ops
 stmw_are zero s le = tt
 stmw_are (suc n) s le = both_ops (one_store (31 - n) s) (stmw_ops n s) ((tt, omega arith), (tt, ((tt, tt, omega arith), tt))) (stmw_are n s (omega arith))
 
-stmw_short : (n s : ℕ) → room_of (stmw_ops n s) ≤ 19 * n
+stmw_short : (n s : ℕ) → room_of (stmw_ops n s) ≤ 18 * n
 unfolding stmw_ops
 stmw_short zero s = omega arith
 stmw_short (suc n) s = let h = stmw_short n s in omega (arith, h)

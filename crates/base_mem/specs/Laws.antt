@@ -20,7 +20,7 @@ TilesArePlaceable = (i : Instr) (m : Map) → IsLegal i → IsBuilt i → IsMap 
 
 -- at most 128 ops, and few bytes
 abbrev pub TilesAreShort : Type 0
-TilesAreShort = (i : Instr) (m : Map) → IsLegal i → IsBuilt i → (length (tile i m) ≤ 128) × (spelled_bytes (tile i m) ≤ 631)
+TilesAreShort = (i : Instr) (m : Map) → IsLegal i → IsBuilt i → (length (tile i m) ≤ 128) × (spelled_bytes (tile i m) ≤ 595)
 
 -- a built instruction is no flow word
 abbrev pub BuiltAreStraight : Type 0

@@ -65,7 +65,11 @@ pub fn is_built(instr: &Instr) -> bool
     )
 }
 
-fn symbolic_tile(alloc: Global, instr: &Instr) -> Ops
+/// The tile of the instruction, told without a map. It has an access to memory.
+///
+/// # Errors
+/// Where there is no memory for the ops.
+pub fn symbolic_tile(alloc: Global, instr: &Instr) -> Result<Vec<SymbolicOp>, AllocError>
     requires legal { IsLegal instr.now }
     requires built { IsBuilt instr.now }
     ensures { IfOk result (λ ops. ops.items ≡ symbolic_tile_of instr.now) }

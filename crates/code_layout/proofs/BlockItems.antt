@@ -46,19 +46,19 @@ flows_short (item ∷ items) = let a = item_short item in let b = flows_short it
 abbrev plain : Instr → List FlowOp
 plain i = map (λ op. Plain op) (word_ops i no_registers)
 
-straight_length : (i : Instr) (rest : List FlowOp) (n : ℕ) → IsLegal i → is_flow i ≡ false → items_length no_moves rest ≤ n → items_length no_moves (plain i ++ rest) ≤ 631 + n
+straight_length : (i : Instr) (rest : List FlowOp) (n : ℕ) → IsLegal i → is_flow i ≡ false → items_length no_moves rest ≤ n → items_length no_moves (plain i ++ rest) ≤ 595 + n
 straight_length i rest n legal straight few =
     omega (arith, few, (tiles_are_short i no_registers legal (straight_word i straight)).1, plain_length (word_ops i no_registers), length_append (plain i) rest)
 
-pub block_length : (at : ℕ) (words : List (Option Instr)) → All IsLegalDecoded words → items_length no_moves (block_items at words) ≤ 631 * length words + 5
+pub block_length : (at : ℕ) (words : List (Option Instr)) → All IsLegalDecoded words → items_length no_moves (block_items at words) ≤ 595 * length words + 5
 unfolding block_items items_length
 block_length at [] legal = omega arith
 block_length at (None ∷ words) legal = omega arith
 block_length at (Some i ∷ words) legal = by_flow (block_length (next_address at) words (All-tail IsLegalDecoded (Some i) words legal)) (is_flow i) refl
   where
-    by_flow : items_length no_moves (block_items (next_address at) words) ≤ 631 * length words + 5 → (b : Bool) → is_flow i ≡ b → items_length no_moves (cond b (flow_tile i at no_registers) (plain i ++ block_items (next_address at) words)) ≤ 631 * suc (length words) + 5
+    by_flow : items_length no_moves (block_items (next_address at) words) ≤ 595 * length words + 5 → (b : Bool) → is_flow i ≡ b → items_length no_moves (cond b (flow_tile i at no_registers) (plain i ++ block_items (next_address at) words)) ≤ 595 * suc (length words) + 5
     by_flow behind true e = omega (arith, flows_short (flow_tile i at no_registers), flow_tiles_are_short i no_registers at)
-    by_flow behind false e = omega (arith, straight_length i (block_items (next_address at) words) (631 * length words + 5) (All-head IsLegalDecoded (Some i) words legal) e behind)
+    by_flow behind false e = omega (arith, straight_length i (block_items (next_address at) words) (595 * length words + 5) (All-head IsLegalDecoded (Some i) words legal) e behind)
 
 straight_count : (i : Instr) (rest : List FlowOp) (n : ℕ) → IsLegal i → is_flow i ≡ false → length rest ≤ n → length (plain i ++ rest) ≤ 128 + n
 straight_count i rest n legal straight few =

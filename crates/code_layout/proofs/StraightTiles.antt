@@ -36,6 +36,6 @@ pub tiles_are_placeable : (i : Instr) (m : Map) → IsLegal i → IsBuiltStraigh
 tiles_are_placeable i m legal (inl built) is_map = rw (without_access i built) (alu_tiles.tiles_are_placeable i m legal built is_map)
 tiles_are_placeable i m legal (inr built) is_map = rw built (access_tiles.tiles_are_placeable i m legal built is_map)
 
-pub tiles_are_short : (i : Instr) (m : Map) → IsLegal i → IsBuiltStraight i → (length (word_ops i m) ≤ 128) × (spelled_bytes (word_ops i m) ≤ 631)
+pub tiles_are_short : (i : Instr) (m : Map) → IsLegal i → IsBuiltStraight i → (length (word_ops i m) ≤ 128) × (spelled_bytes (word_ops i m) ≤ 595)
 tiles_are_short i m legal (inl built) = rw (without_access i built) (alu_tiles.tiles_are_short i m legal built)
 tiles_are_short i m legal (inr built) = rw built (access_tiles.tiles_are_short i m legal built)

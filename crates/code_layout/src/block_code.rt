@@ -22,7 +22,7 @@ pub fn block_items(alloc: Global, at: u32, words: &[Option<Instr>]) -> Result<Ve
     ensures items { IfOk result (λ v. v.items ≡ items_of at words.now) }
     ensures laid { IfOk result (λ v. All IsLaid v.items) }
     ensures few { IfOk result (λ v. length v.items ≤ 8193) }
-    ensures length { IfOk result (λ v. items_length no_moves v.items ≤ 631 * length words.now + 5) }
+    ensures length { IfOk result (λ v. items_length no_moves v.items ≤ 595 * length words.now + 5) }
 {
     tiles(alloc, at, words)
 }

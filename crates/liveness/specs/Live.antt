@@ -1,8 +1,8 @@
 -- Which locations are live before a code word: liveness of compilers, over the code words of a program. These stand one
 -- behind another from the address `first` on, and are named by their places, counted from 0.
-use Rattle.std.specs.Prelude.{◌≡◌, ℕ, ◌+◌, ◌<◌, ◌^◌, ◌⊎◌, ◌↔◌, List, [], ◌∷◌, IsTrue, Bool, true, false, not, ◌==◌, ◌&&◌, Contains, IsBitSet, length, slice_index}
+use Rattle.std.specs.Prelude.{◌≡◌, ℕ, ◌+◌, ◌-◌, ◌/◌, ◌<◌, ◌^◌, ◌⊎◌, ◌↔◌, List, [], ◌∷◌, IsTrue, Bool, true, false, not, ◌==◌, ◌&&◌, Contains, IsBitSet, length, slice_index, slice_index_or, if◌then◌else◌}
 use Rattle.machines.specs.Prelude.{Instr, Branch, BranchConditional, BranchRegister, SystemCall, IsWordOf, bo_0, bo_2, locations_read, locations_written}
-use Rattle.block_find.specs.Prelude.{Names}
+use Rattle.block_find.specs.Prelude.{Names, address_of}
 
 -- there are 46 locations
 abbrev pub IsLocation : ℕ → Type 0
@@ -77,3 +77,9 @@ pub record AreLive (first : ℕ) (words : List ℕ) (sets : Sets) : Type 0 where
   pub count : length sets.bits ≡ length words
   pub within : (k : ℕ) → k < length words → slice_index sets.bits k < 2 ^ 46
   pub each : (k l : ℕ) → k < length words → IsBitSet (slice_index sets.bits k) l ↔ IsLive first words l k
+
+-- the bits of the locations that are live before the word at a guest address; where no code word stands there are none
+abbrev pub live_at : Sets → ℕ → ℕ
+live_at sets address =
+    let k = (address - sets.first) / 4 in
+    if address == address_of sets.first k then slice_index_or sets.bits k 0 else 0

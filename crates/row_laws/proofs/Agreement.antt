@@ -7,7 +7,7 @@ use Rattle.row_laws.proofs.Changes.{changes}
 use Rattle.row_laws.proofs.Depends.{depends}
 
 -- a location is in a list, or it isn't
-in_or_not : (xs : List ℕ) (x : ℕ) → Contains xs x ⊎ Lacks xs x
+pub in_or_not : (xs : List ℕ) (x : ℕ) → Contains xs x ⊎ Lacks xs x
 in_or_not [] x = inr (λ c. none_in x c)
 in_or_not (y ∷ ys) x = by_cases (in_or_not ys x) (grind arith)
   where

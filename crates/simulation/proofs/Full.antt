@@ -4,7 +4,7 @@ use Rattle.std.proofs.lemmas.Bool.{ltb-true, lt-ltb}
 use Rattle.machines.specs.Prelude.{Map, Anywhere, Walks, stays, walks, Guest, Core, Host, value_at}
 use Rattle.reg_map.specs.Prelude.{location_count, location_range, location_place, Represents, AreInRange}
 use Rattle.symbolic_tiles.specs.Prelude.{GoesThrough, Any}
-use Rattle.simulation.specs.Prelude.{SimulationContext, MatchesState, Alike, StepKeepsUnwritten}
+use Rattle.simulation.specs.Prelude.{SimulationContext, IsGuest, MatchesState, Alike, StepKeepsUnwritten}
 
 -- the guest with the values that the places have, and beyond the locations its own
 abbrev pub full : Map → ℕ → Core → Guest → Guest
@@ -29,6 +29,9 @@ module _ (s : SimulationContext) (map : Map) (g : Guest) (core : Core) (matches 
 
   pub full_in_range : AreInRange shown
   full_in_range x lx = subst (λ v. v < location_range x) (sym (full_at map s.area core g x lx)) (matches.in_range x lx)
+
+  pub full_guest : IsGuest s shown
+  full_guest = record { in_range = full_in_range; bytes = matches.is_guest.bytes }
 
 -- where a fact holds through, there is a core
 pub goes_to : (o : Option Core) (P : Core → Type 0) → GoesThrough o P → (core : Core) × (o ≡ Some core) × P core

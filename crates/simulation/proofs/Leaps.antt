@@ -114,6 +114,7 @@ module _ (s : SimulationContext) (t : IsTranslation s) where
       matches' : MatchesState s map g core
       matches' = record {
         is_map = matches.is_map;
+        is_guest = matches.is_guest;
         represents = record {
           locs = λ x lx alive. place_kept map s.area s.first s.count h.core x ∙ matches.represents.locs x lx alive;
           bytes = matches.represents.bytes;

@@ -29,6 +29,7 @@ module _ (s : SimulationContext) (page : IsHomePage s.area s.guest s.host) (from
   moved : (g : Guest) (core : Core) → MatchesState s from g core → MatchesState s to g (put_at core new_place (value core))
   moved g core st = record {
     is_map = is_map;
+    is_guest = st.is_guest;
     represents = record {
       locs = λ x lx alive. ⊎_elim (λ e. here x e ∙ st.represents.locs n (omega arith) (subst (λ z. s.live g.next z ≡ true) e alive) ∙ ap g.locs (sym e)) (λ ne. there x lx ne ∙ st.represents.locs x lx alive) (is_same x n);
       bytes = λ a held. place_bytes to s.area page.low n (value core) a core (omega arith) (page.apart a held) ∙ st.represents.bytes a held;
@@ -104,6 +105,7 @@ module _ (s : SimulationContext) (page : IsHomePage s.area s.guest s.host) (from
     short = omega arith;
     moves = λ g core choices at st. record {
       is_map = is_map;
+      is_guest = st.is_guest;
       represents = record {
         locs = λ x lx alive. ⊎_elim (λ e. absurd (unneeded g x at e alive)) (λ ne. same core x ne ∙ st.represents.locs x lx alive) (is_same x n);
         bytes = st.represents.bytes;

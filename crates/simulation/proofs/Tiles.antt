@@ -5,10 +5,10 @@ use Rattle.machines.specs.Prelude.{Map, Instr, Op, Condition, condition_holds, O
 use Rattle.runs.proofs.Walking.{join_walks}
 use Rattle.symbolic_tiles.specs.Prelude.{perform, Window, TilePrecondition, TilePostcondition}
 use Rattle.symbolic_tiles.proofs.Walked.{ops_are_walked}
-use Rattle.simulation.specs.Prelude.{rows_of, behind_all, SimulationContext, MatchesState, PlanStep, Tile, BranchTile, word_count, room, HasFewMoves, EdgeAt, SwitchAt, TileAt, IsUnneeded, BlockAt, at_block, on_edge, IsTranslation}
+use Rattle.simulation.specs.Prelude.{rows_of, behind_all, SimulationContext, LeadsToGuests, MatchesState, PlanStep, Tile, BranchTile, word_count, room, HasFewMoves, EdgeAt, SwitchAt, TileAt, IsUnneeded, BlockAt, at_block, on_edge, IsTranslation}
 use Rattle.code_layout.specs.Prelude.{op_at, ops_at}
-use Rattle.simulation.proofs.Windows.{Passes, is_next, words_pass, other_goes}
-use Rattle.simulation.proofs.Full.{goes_to, full, full_alike, full_represents, full_in_range, walk_keeps}
+use Rattle.simulation.proofs.Windows.{Passes, is_next, words_pass, words_guests, other_goes}
+use Rattle.simulation.proofs.Full.{goes_to, full, full_alike, full_represents, full_in_range, full_guest, walk_keeps}
 use Rattle.simulation.proofs.Switches.{Steps, jumped}
 
 not_dead : (dead live : Bool) → (dead ≡ true → live ≡ false) → live ≡ true → dead ≡ false
@@ -33,7 +33,7 @@ module _ (s : SimulationContext) (t : IsTranslation s) where
   pub passes : (map : Map) (words : List Instr) (window : Window) (ops : List Op) (g g' : Guest) (h : Host) (b : ℕ) → MatchesState s map g h.core → TileAt s map g.next words window ops h.eip b → rows_of s.guest words g ≡ Goes g' → IsUnneeded s window g'.next → Passed s map words window ops g g' h b
   passes map words window ops g g' h b matches tile goes unneeded =
       let shown = full map s.area h.core g in
-      let other = other_goes s t.live words g.next g shown g' tile.0.fetched (is_next s words g) (full_alike s map g h.core matches) goes in
+      let other = other_goes s t.guests t.live words g.next g shown g' tile.0.fetched (is_next s words g) matches.is_guest (full_guest s map g h.core matches) (full_alike s map g h.core matches) goes in
       let outcome : window.outcome s.guest shown ≡ Goes other.0 = tile.0.rows shown ∙ other.1 in
       let ready : TilePrecondition window map s.area s.guest s.host shown h.core = record {
         page = t.page;
@@ -58,6 +58,7 @@ module _ (s : SimulationContext) (t : IsTranslation s) where
         host_walks = walked;
         condition = d.2.condition;
         matches = record {
+          is_guest = subst (LeadsToGuests s) goes (words_guests s t.guests words g.next g tile.0.fetched (is_next s words g) matches.is_guest);
           is_map = matches.is_map;
           represents = record {
             locs = λ x lx alive. d.2.represents.locs x lx (not_dead (window.dead x) (s.live g'.next x) (unneeded x) alive) ∙ other.2.locs x alive;

@@ -1,7 +1,7 @@
 -- The two machines between which a simulation is told, and what each step of theirs leaves alone. This project's own.
 use Rattle.std.specs.Prelude.{◌≡◌, ℕ, ◌+◌, ◌*◌, ◌%◌, ◌^◌, ◌<◌, ◌≤◌, ◌⊎◌, Bool, true, false, cond, drop, Option}
 use Rattle.machines.specs.Prelude.{Outside, AnswerValue, Instr, Map, IsMap, Condition, condition_holds, Outcome, Goes, Asks, Ends, Rights, load, Guest, guest_executes, Core, Host, value_at}
-use Rattle.reg_map.specs.Prelude.{location_count, location_range, location_place, Represents}
+use Rattle.reg_map.specs.Prelude.{location_count, location_range, location_place, Represents, AreInRange}
 use Rattle.symbolic_tiles.specs.Prelude.{IsCore}
 
 -- What no step changes: the rights to memory, the home page's address, the bytes that the written file lays out, both
@@ -52,11 +52,23 @@ module _ (s : SimulationContext) where
   abbrev pub ForksAt : Condition → ℕ → ℕ → ℕ → Type 0
   ForksAt c a holds fails = (h : Host) → h.eip ≡ a → s.host_step h ≡ Goes (record { core = h.core; eip = cond (condition_holds c h.core.flags) holds fails; choices = drop 1 h.choices })
 
+  -- what every state has that the guest comes to: values that its locations can have, and bytes in its segments
+  pub record IsGuest (g : Guest) : Type 0 where
+    pub in_range : AreInRange g
+    pub bytes : (a : ℕ) → s.guest.held a ≡ true → g.bytes a < 256
+
+  -- the same of what an outcome leads to, behind a call under every answer
+  abbrev pub LeadsToGuests : Outcome Guest → Type 0
+  LeadsToGuests (Goes g) = IsGuest g
+  LeadsToGuests (Asks call next) = (a : AnswerValue) → IsGuest (next a)
+  LeadsToGuests (Ends e) = Unit {0}
+
   -- The relation on one pair of states. The host represents the guest under the map, on what is live at the guest's next
   -- word; each location's place has a value that the location can have; and bytes that may not be written are as the file
   -- lays them, as those of the table, of the code and of unwritable segments.
   pub record MatchesState (map : Map) (g : Guest) (core : Core) : Type 0 where
     pub is_map : IsMap map
+    pub is_guest : IsGuest g
     pub represents : Represents map s.area (λ x. s.live g.next x ≡ true) s.guest.held g core
     pub in_range : (x : ℕ) → x < location_count → value_at core (location_place map s.area x) < location_range x
     pub is_core : IsCore core
@@ -76,7 +88,7 @@ module _ (s : SimulationContext) where
 
   -- What isn't live before a word makes no difference: its row has the same outcome, but for what isn't live behind it.
   abbrev pub LiveIsEnough : Type 0
-  LiveIsEnough = (word : Option Instr) (g other : Guest) → IsWordAt g.next word → Alike g other → AreAlike (guest_executes s.guest word g) (guest_executes s.guest word other)
+  LiveIsEnough = (word : Option Instr) (g other : Guest) → IsWordAt g.next word → IsGuest g → IsGuest other → Alike g other → AreAlike (guest_executes s.guest word g) (guest_executes s.guest word other)
 
   -- The table of doors: a word for each code word, which can be read and not written. Off the code words the door is `hold`.
   pub record HasTable : Type 0 where

@@ -4,7 +4,7 @@ use Rattle.machines.specs.Prelude.{AnswerValue, ended, Running, Map, IsMap, MovT
 use Rattle.reg_map.specs.Prelude.{home, slot_of, IsHomePage, HasSegments}
 use Rattle.symbolic_tiles.specs.Prelude.{WritesHeld}
 use Rattle.code_layout.specs.Prelude.{no_registers}
-use Rattle.simulation.specs.Context.{SimulationContext, HasTable, IsOffCode, JumpsTo, MatchesState, StepKeepsUnwritten, LiveIsEnough}
+use Rattle.simulation.specs.Context.{SimulationContext, HasTable, IsOffCode, JumpsTo, IsGuest, LeadsToGuests, MatchesState, StepKeepsUnwritten, LiveIsEnough}
 use Rattle.simulation.specs.Plan.{PlanStep, word_count, room, HasFewMoves, IsMove, SwitchAt, DoorAt, BlockAt, Begins}
 
 module _ (s : SimulationContext) where
@@ -16,12 +16,13 @@ module _ (s : SimulationContext) where
     on_edge : (map : Map) (maps : List Map) → MatchesState s map g h.core → SwitchAt s g.next maps map h.eip → p ≤ 64 → q + 2 * length maps ≤ 26 → Simulates p q g h
     off_code : IsOffCode s g.next → h.eip ≡ s.hold → p ≤ 64 → q ≤ 28 → Simulates p q g h
 
-  -- The context is that of a translation: the host has the guest's memory and, apart from it, the home page; each code
+  -- The context is that of a translation: the guest's steps lead to states of the guest; the host has the guest's memory and, apart from it, the home page; each code
   -- word's block stands where edges to it lead, and edges off the code lead to `hold`, which is a jump to itself.
   pub record IsTranslation : Type 0 where
     pub page : IsHomePage s.area s.guest s.host
     pub segments : HasSegments s.guest s.host
     pub writes_held : WritesHeld s.guest
+    pub guests : (g : Guest) → IsGuest s g → LeadsToGuests s (s.guest_step g)
     pub keeps : (h : Host) → StepKeepsUnwritten s.host h.core (s.host_step h)
     pub live : LiveIsEnough s
     pub blocks : (w : ℕ) → Begins s w ⊎ (IsOffCode s w × (s.target w ≡ s.hold))

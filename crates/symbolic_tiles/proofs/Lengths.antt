@@ -48,17 +48,18 @@ pub ops_short : (m : Map) (ops : List SymbolicOp) → spelled_bytes (ops_of ops 
 ops_short m [] = omega arith
 ops_short m (l ∷ ops) = let a = op_short m l in let b = ops_short m ops in omega (arith, a, b)
 
-pub at_least : (l : SymbolicOp) → 6 ≤ most_bytes l
+pub at_least : (l : SymbolicOp) → 5 ≤ most_bytes l
 at_least (PutImmediate x v) = omega arith
 at_least (Multiply r source) = omega arith
 at_least (Scan r source) = omega arith
 at_least (FetchByte r x) = omega arith
 at_least (SetByte condition x) = omega arith
+at_least (SwapBytes r) = omega arith
 at_least (Load size r b d) = omega arith
 at_least (Store size b d r) = omega arith
 at_least _ = omega arith
 
-pub few_ops : (m : Map) (ops : List SymbolicOp) → 6 * length (ops_of ops m) ≤ room_of ops
+pub few_ops : (m : Map) (ops : List SymbolicOp) → 5 * length (ops_of ops m) ≤ room_of ops
 few_ops m [] = omega arith
 few_ops m (l ∷ ops) = let a = at_least l in let b = few_ops m ops in omega (arith, a, b)
 

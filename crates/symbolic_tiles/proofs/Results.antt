@@ -56,7 +56,7 @@ record_are_ops : (records : Bool) → AreWellFormed (record_ops records)
 record_are_ops true = ((tt, tt), ((tt, omega arith), ((tt, omega arith), ((tt, tt), ((tt, omega arith), ((tt, tt), ((tt, (omega arith, omega arith)), ((tt, tt), (((omega arith, omega arith), tt), tt)))))))))
 record_are_ops false = tt
 
-with_record : (ops : List SymbolicOp) (records : Bool) → room_of ops ≤ 570 → room_of (ops ++ record_ops records) ≤ 631
+with_record : (ops : List SymbolicOp) (records : Bool) → room_of ops ≤ 534 → room_of (ops ++ record_ops records) ≤ 595
 with_record ops true h = let e = room_append ops (record_ops true) in omega (arith, e, h)
 with_record ops false h = let e = room_append ops (record_ops false) in omega (arith, e, h)
 
@@ -103,7 +103,7 @@ module _ (i : Instr) (k : ℕ) (carries records : Bool) (number : Guest → ℕ)
       (λ x. sym (row_results carries records k (number g) (carry g) (effect_of i g) (values_in i g) g.locs (omega arith) given.in_range (record { cr = refl; xer = refl }) (gives g) x) ∙ ap (λ h. h.locs x) e)
       (ap (λ h. h.bytes) e)))
 
-  pub results_do : (ops : List SymbolicOp) → IsLegal i → AreWellFormed ops → room_of ops ≤ 570 → IsRow → RowGives → OpsGive ops → IsTileOf i (ops ++ record_ops records)
+  pub results_do : (ops : List SymbolicOp) → IsLegal i → AreWellFormed ops → room_of ops ≤ 534 → IsRow → RowGives → OpsGive ops → IsTileOf i (ops ++ record_ops records)
   results_do ops legal are short row gives run = record {
     well_formed = both_ops ops (record_ops records) are (record_are_ops records);
     short = with_record ops records short;

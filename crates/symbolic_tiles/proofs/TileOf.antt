@@ -5,7 +5,7 @@ use Rattle.symbolic_tiles.specs.Prelude.{SymbolicOp, AreWellFormed, SymbolicStat
 use Rattle.symbolic_tiles.proofs.Done.{KeepsFields, OpsDo, ops_do_row}
 use Rattle.symbolic_tiles.proofs.Results.{Then}
 
-pub ops_are_tile : (i : Instr) (ops : List SymbolicOp) → IsLegal i → AreWellFormed ops → room_of ops ≤ 631 → KeepsFields i → OpsDo i ops → IsTileOf i ops
+pub ops_are_tile : (i : Instr) (ops : List SymbolicOp) → IsLegal i → AreWellFormed ops → room_of ops ≤ 595 → KeepsFields i → OpsDo i ops → IsTileOf i ops
 ops_are_tile i ops legal are short fields runs = record { well_formed = are; short = short; does = ops_do_row i ops legal are fields runs }
 
 pub then_more : (P Q : SymbolicState → Type 0) (o : Option SymbolicState) → ((t : SymbolicState) → P t → Q t) → Then P o → Then Q o

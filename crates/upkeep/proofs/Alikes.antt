@@ -23,5 +23,5 @@ module _ (s : SimulationContext) where
       ap (λ (f : ℕ → ℕ). made f other.next other.bytes) locs ∙ ap (λ (n : ℕ). made g.locs n other.bytes) alike.next ∙ ap (λ (f : ℕ → ℕ). made g.locs g.next f) alike.bytes
 
 pub all_live : AllLiveIsEnough
-all_live s live word g other stands alike =
+all_live s live word g other stands is_guest is_other alike =
     subst (λ t. AreAlike s (guest_executes s.guest word g) (guest_executes s.guest word t)) (sym (same s live g other alike)) (are_alike s (guest_executes s.guest word g))

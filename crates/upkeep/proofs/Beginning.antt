@@ -121,11 +121,14 @@ starts P Q area table code s choices free is are set =
     let bytes_are : core.bytes ≡ first_bytes (written_segments P.segments area table code) = ap first_bytes is.segments in
     let shown : (x : ℕ) → x < 46 → load (home_size x) (s.area + home x) core.bytes ≡ update (λ y. 0) 1 stack_start x =
     λ x lt. ap (λ n. load (home_size x) (n + home x) core.bytes) set.area_is ∙ ap (λ f. load (home_size x) (area + home x) f) bytes_are ∙ at_start P area table code free x lt in
+    let same : (a : ℕ) → s.guest.held a ≡ true → core.bytes a ≡ (guest_start P).bytes a =
+    λ a held. ap (λ (f : ℕ → ℕ). f a) bytes_are ∙ byte_in_front (home_segment area ∷ table_segment area table ∷ code_segment area code ∷ []) a P.segments (ap (λ r. r.held a) (sym set.guest) ∙ held) in
     let matches : MatchesState s no_registers (guest_start P) core = record {
       is_map = no_registers_is_map;
+      is_guest = record { in_range = λ x lt. start_in_range x; bytes = λ a held. subst (λ v. v < 256) (same a held) (first_byte a Q.segments are) };
       represents = record {
         locs = λ x lt live. shown x lt;
-        bytes = λ a held. ap (λ (f : ℕ → ℕ). f a) bytes_are ∙ byte_in_front (home_segment area ∷ table_segment area table ∷ code_segment area code ∷ []) a P.segments (ap (λ r. r.held a) (sym set.guest) ∙ held);
+        bytes = same;
       };
       in_range = λ x lt. subst (λ v. v < location_range x) (sym (shown x lt)) (start_in_range x);
       is_core = record { words = register_word choices; bytes = λ a. first_byte a Q.segments are };

@@ -1,5 +1,6 @@
 pub mod Unwritten
 pub mod Alikes
+pub mod Guests
 pub mod Loaded
 pub mod Memory
 pub mod Page

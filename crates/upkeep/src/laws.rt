@@ -2,13 +2,19 @@
 
 ghost use Rattle.upkeep.specs.Loaded.{LoadedHaveBytes};
 ghost use Rattle.upkeep.specs.Written.{WrittenIsInPlace, WrittenHasBytes, WrittenStarts};
-ghost use Rattle.upkeep.specs.Steps.{HostKeepsUnwritten, ContextKeepsUnwritten, AllLiveIsEnough};
+ghost use Rattle.upkeep.specs.Steps.{HostKeepsUnwritten, ContextKeepsUnwritten, GuestsStayGuests, AllLiveIsEnough};
 
 /// No step of the host, with any rights, changes a byte that may not be written, whatever the answer to
 /// its call.
 pub fn host_keeps_unwritten()
     ensures step { HostKeepsUnwritten }
     ensures context { ContextKeepsUnwritten }
+{}
+
+/// Each step of a program's guest leaves every location a value that it can have, and its segments bytes, whatever the answer to
+/// its call.
+pub fn guests_stay_guests()
+    ensures { GuestsStayGuests }
 {}
 
 /// Where every location is live, what isn't live makes no difference.

@@ -3,4 +3,7 @@
 
 mod laws;
 
-pub use laws::{all_live_is_enough, has_home, host_keeps_unwritten, loaded_has_bytes, starts};
+pub use laws::{
+    all_live_is_enough, guests_stay_guests, has_home, host_keeps_unwritten, loaded_has_bytes,
+    starts,
+};

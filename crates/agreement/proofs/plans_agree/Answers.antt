@@ -39,6 +39,7 @@ returns c = λ interface P Q x.
       page = place.page;
       segments = place.segments;
       writes_held = place.writes_held;
+      guests = c.guests_stay_guests.ensures s reading P (record { reads = reads_words; rights = refl; steps = λ g. refl; page = place.page; segments = place.segments; writes_held = place.writes_held });
       keeps = c.host_keeps_unwritten.ensures.context s (code_of Q) ops (λ h. refl);
       live = plans.live;
       blocks = plans.blocks;

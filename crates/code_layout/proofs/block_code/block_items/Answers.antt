@@ -14,4 +14,4 @@ returns-clause-few c =
     made_block (λ (xs : List FlowOp). length xs ≤ 8193) c.args.at c.args.words.now c.tiles.result (omega (arith, count, short)) c.tiles.ensures
 
 pub returns-clause-length : goal.returns-clause-length
-returns-clause-length c = made_block (λ (xs : List FlowOp). items_length no_moves xs ≤ 631 * length c.args.words.now + 5) c.args.at c.args.words.now c.tiles.result (block_length c.args.at c.args.words.now c.requires.legal) c.tiles.ensures
+returns-clause-length c = made_block (λ (xs : List FlowOp). items_length no_moves xs ≤ 595 * length c.args.words.now + 5) c.args.at c.args.words.now c.tiles.result (block_length c.args.at c.args.words.now c.requires.legal) c.tiles.ensures

@@ -34,7 +34,7 @@ loop-block-preserved c =
     let its : List FlowOp = c.deref.result.now in
     let are : its ≡ items_of s.first s.decoded.now block = items_are s.first c.at.result.now.at s.decoded.now c.words_of.result.now block its (search rules) c.words_of.ensures.words (c.deref.ensures.value ∙ c.in_ok-items.ensures.items) in
     let some = (block_is s.first s.entry s.words.now s.blocks.now c.requires.blocks c.each_is_block.ensures c.loop-block.block lt).1.some in
-    let long : items_length no_moves its ≤ 631 * length c.words_of.result.now + 5 = (search rules) in
+    let long : items_length no_moves its ≤ 595 * length c.words_of.result.now + 5 = (search rules) in
     let count : length c.words_of.result.now ≡ word_count block = c.words_of.ensures.count in
     record {
       bytes = laid_more s.decoded.now p c.args.layout.now.code (vec_len c.loop-block.code) (vec_len c.put.new.code) c.loop-block.block all nowhere its c.loop-block.code.items c.put.new.code.items (code_bytes s.decoded.now p all) lt (search rules) c.in_ok-put.ensures.bytes c.in_ok-put.ensures.length c.loop-block.invariant.bytes;

@@ -21,7 +21,7 @@ overflow_add-at-in-loop-block c =
     let lt : c.loop-block.block < length all = omega (arith, t, end) in
     let some = (block_is s.first s.entry s.words.now s.blocks.now c.requires.blocks c.each_is_block.ensures c.loop-block.block lt).1.some in
     let few = few_words s.first s.entry s.words.now s.blocks.now c.requires.blocks c.each_is_block.ensures c.have_few_words.ensures (search rules) c.loop-block.block lt in
-    let long : c.length-at.result ≤ 631 * length c.words_of.result.now + 5 = (search rules) in
+    let long : c.length-at.result ≤ 595 * length c.words_of.result.now + 5 = (search rules) in
     let count : length c.words_of.result.now ≡ word_count block = c.words_of.ensures.count in
     let here = c.loop-block.invariant.room in
     let room = c.requires.room in
@@ -38,7 +38,7 @@ loop-block-preserved c =
     let its : List FlowOp = c.deref.result.now in
     let are : its ≡ items_of s.first s.decoded.now block = items_are s.first c.at.result.now.at s.decoded.now c.words_of.result.now block its (search rules) c.words_of.ensures.words (c.deref.ensures.value ∙ c.in_ok-items.ensures.items) in
     let some = (block_is s.first s.entry s.words.now s.blocks.now c.requires.blocks c.each_is_block.ensures c.loop-block.block lt).1.some in
-    let long : c.length-at.result ≤ 631 * length c.words_of.result.now + 5 = (search rules) in
+    let long : c.length-at.result ≤ 595 * length c.words_of.result.now + 5 = (search rules) in
     let count : length c.words_of.result.now ≡ word_count block = c.words_of.ensures.count in
     let is : c.length-at.result ≡ block_length s.first s.decoded.now no_moves block = c.length-at.ensures.value ∙ ap (items_length no_moves) are in
     record {
