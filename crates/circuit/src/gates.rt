@@ -7,7 +7,7 @@ ghost use Rattle.circuit.specs.Nodes.{AllAgree, IsInput, IsOrdered, Says, free_c
 ghost use Rattle.circuit.specs.Frame.{IsLater, MayUntie};
 ghost use Rattle.circuit.specs.Sharing.{IsShared, IsApart, IsBegun};
 ghost use Rattle.circuit.specs.Extensions.{GatesAgree, GateSays};
-ghost use Rattle.circuit.specs.Made.{node_made, and_made, xor_made, xor_node_made, xor_signed_made};
+ghost use Rattle.circuit.specs.Made.{node_made, and_made, xor_made, xor_node_made};
 ghost use Rattle.indexmap.specs.IndexSet.{index_set_len};
 
 use crate::literals::{Lit, literal_at};
@@ -107,7 +107,7 @@ impl Gates {
     }
 
     /// Xor, with its sign outside: constants, equal and opposite literals are folded, and the smaller variable goes first.
-    #[tactic(auto, unfolding(crate::specs::Made::xor_made))]
+    #[tactic(auto, unfolding(crate::specs::Made::xor_made, crate::specs::Made::xor_signed_made))]
     pub fn xor_gate(&mut self, b: Lit, c: Lit) -> Result<Lit, NoMemory>
         requires b_owned { lit_reach b ≤ length self.old.nodes.keys }
         requires c_owned { lit_reach c ≤ length self.old.nodes.keys }
@@ -130,27 +130,11 @@ impl Gates {
                 } else if x == -y {
                     Ok(Lit::Const(true))
                 } else {
-                    self.xor_signed(x, y)
+                    let sum = self.xor_node(x.abs(), y.abs())?;
+                    Ok(sum.turned((x < 0) != (y < 0)))
                 }
             }
         }
-    }
-
-    /// The Xor of two signed variables, with its sign outside.
-    #[tactic(auto, unfolding(crate::specs::Made::xor_signed_made))]
-    fn xor_signed(&mut self, x: i32, y: i32) -> Result<Lit, NoMemory>
-        requires x_owned { signed_reach x ≤ length self.old.nodes.keys }
-        requires y_owned { signed_reach y ≤ length self.old.nodes.keys }
-        ensures later { IsLater self.old.nodes.keys self.new.nodes.keys }
-        ensures gates { (v : ℕ → Bool) → GatesAgree self.new.nodes.keys v → GatesAgree self.old.nodes.keys v }
-        ensures owned { IfOk result (λ r. lit_reach r ≤ length self.new.nodes.keys) }
-        ensures means { IfOk result (λ r. (v : ℕ → Bool) → AllAgree self.new.nodes.keys v → lit_truth r v ≡ not (same (literal_truth x v) (literal_truth y v))) }
-        ensures gate { IfOk result (λ r. (v : ℕ → Bool) → GatesAgree self.new.nodes.keys v → lit_truth r v ≡ not (same (literal_truth x v) (literal_truth y v))) }
-        ensures made { IfOk result (λ r. r ≡ (xor_signed_made ⟦<Node as PartialEq>⟧.eq self.old.nodes.keys x y).flag) }
-        ensures held { OnOk result (self.new.nodes.keys ≡ (xor_signed_made ⟦<Node as PartialEq>⟧.eq self.old.nodes.keys x y).held) }
-    {
-        let sum = self.xor_node(x.abs(), y.abs())?;
-        Ok(sum.turned((x < 0) != (y < 0)))
     }
 
     /// The Xor of two variables.

@@ -8,6 +8,7 @@ use Rattle.ia_codec.specs.declared.op.Op.{Op}
 use Rattle.ia_codec.specs.declared.op.Op.TheVariants.{Unary, Imul}
 use Rattle.ia_alu.specs.declared.given.HostIn.{HostIn}
 use Rattle.ia_alu.specs.declared.given.HostEffect.{HostEffect}
+use Rattle.ia_alu.specs.declared.given.Shifted.{Shifted}
 
 -- the products and divisions: what they make may be tied to nothing
 abbrev pub is_product_of_one : UnaryOp → Bool
@@ -39,6 +40,15 @@ module _ {A W B : Type 0} where
     pub free_sf_owned : flag_reach g.free_sf ≤ extent
     pub free_of_owned : flag_reach g.free_of ≤ extent
 
+  -- and so is each part of a shift
+  pub record IsShiftedOwned (reach : W → ℕ) (flag_reach : B → ℕ) (extent : ℕ) (s : Shifted A W B) : Type 0 where
+    pub count_owned : reach s.count ≤ extent
+    pub value_owned : reach s.value ≤ extent
+    pub last_owned : flag_reach s.last ≤ extent
+    pub p_owned : flag_reach s.p ≤ extent
+    pub q_owned : flag_reach s.q ≤ extent
+
+  -- and of what an op gives
   pub record IsEffectOwned (reach : W → ℕ) (flag_reach : B → ℕ) (extent : ℕ) (e : HostEffect A W B) : Type 0 where
     pub result_owned : reach e.result ≤ extent
     pub high_owned : reach e.high ≤ extent

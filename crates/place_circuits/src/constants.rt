@@ -3,7 +3,8 @@
 ghost use Rattle.std.specs.Prelude.{◌≡◌, ◌%◌, ◌^◌, ◌<◌, ◌≤◌, ℕ, Bool, IfOk, length};
 ghost use Rattle.circuit.specs.Prelude.{word_value, word_reach_below, AllAgree, IsLater};
 ghost use Rattle.place_circuits.specs.Places.{HoldsPlaces, PlacesOwned};
-ghost use Rattle.place_circuits.specs.Numbers.{hole_value, IsNumber, number_value};
+ghost use Rattle.rule_body.specs.Prelude.{hole_value};
+ghost use Rattle.place_circuits.specs.Numbers.{IsNumber, number_value};
 
 use crate::places::Places;
 use circuit::{Gates, Lit};

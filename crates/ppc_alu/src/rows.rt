@@ -2,9 +2,8 @@
 
 ghost use Rattle.std.specs.Prelude.{◌≡◌, false, IfOk, OnErr, IsTrue};
 ghost use Rattle.word_kit.specs.Algebra.{MayUntie};
-ghost use Rattle.ppc_isa.specs.Legal.{layout, IsLegal};
+ghost use Rattle.ppc_isa.specs.Legal.{IsLegal};
 ghost use Rattle.ppc_isa.specs.Rows.{guest_row};
-ghost use Rattle.ppc_isa.specs.Word.{Fit};
 ghost use Rattle.ppc_parts.specs.Prelude.{IsOwned, values_of, GivesEffect};
 ghost use Rattle.ppc_alu.specs.RowTerms.{is_product_row, row_term};
 
@@ -22,9 +21,16 @@ use ppc_parts::{Effect, GuestIn, unchanged};
 use ppc_sums::{arithmetic_row, arithmetic_unary_row, immediate_row};
 use word_kit::{Alg, NoMemory};
 
-// The row of an instruction whose numbers fit their fields.
-fn row<A: Alg>(alg: &mut A, instr: &Instr, from: &GuestIn<A>) -> Result<Effect<A>, NoMemory>
-    requires fit { Fit (layout instr.now) }
+/// What an instruction makes of the values that it reads: its row (Power ISA Book I; `from.b` stands in the place of an
+/// immediate, which isn't read of the instruction), over the operations of an algebra, under every assignment that it
+/// admits. `taken` is the condition of a conditional branch or of a trap, and true for b. Targets of branches, the return
+/// address in LR, system calls, and the words of lmw and stmw are the machine's.
+///
+/// The instruction is legal, and the algebra owns the values of `from`; then it owns those of the effect. The effect is
+/// exactly the row's term over the algebra's operations. Only products and divisions raise the algebra's opaque number.
+/// NoMemory comes only from an algebra that takes memory.
+pub fn effect<A: Alg>(alg: &mut A, instr: &Instr, from: &GuestIn<A>) -> Result<Effect<A>, NoMemory>
+    requires legal { IsLegal instr.now }
     requires owned { IsOwned A.word_reach (A.extent alg.old) from.now }
     ensures later { MayUntie A.Alg alg.old alg.new }
     ensures opaque { is_product_row instr.now ≡ false → A.opaque alg.new ≡ A.opaque alg.old }
@@ -72,24 +78,4 @@ fn row<A: Alg>(alg: &mut A, instr: &Instr, from: &GuestIn<A>) -> Result<Effect<A
         Instr::MoveCrField { to, from: field } => Ok(move_field(alg, to, field, from)),
         Instr::CrLogic { op, d, a, b } => cr_logic_row(alg, op, d, a, b, from),
     }
-}
-
-/// What an instruction makes of the values that it reads: its row (Power ISA Book I; `from.b` stands in the place of an
-/// immediate, which isn't read of the instruction), over the operations of an algebra, under every assignment that it
-/// admits. `taken` is the condition of a conditional branch or of a trap, and true for b. Targets of branches, the return
-/// address in LR, system calls, and the words of lmw and stmw are the machine's.
-///
-/// The instruction is legal, and the algebra owns the values of `from`; then it owns those of the effect. The effect is
-/// exactly the row's term over the algebra's operations. Only products and divisions raise the algebra's opaque number.
-/// NoMemory comes only from an algebra that takes memory.
-pub fn effect<A: Alg>(alg: &mut A, instr: &Instr, from: &GuestIn<A>) -> Result<Effect<A>, NoMemory>
-    requires legal { IsLegal instr.now }
-    requires owned { IsOwned A.word_reach (A.extent alg.old) from.now }
-    ensures later { MayUntie A.Alg alg.old alg.new }
-    ensures opaque { is_product_row instr.now ≡ false → A.opaque alg.new ≡ A.opaque alg.old }
-    ensures makes { IfOk result (λ r. record { effect = r; held = A.held alg.new } ≡ row_term A.ops instr.now (A.held alg.old) from.now) }
-    ensures fails { OnErr result (IsTrue A.takes_memory) }
-    ensures gives { IfOk result (λ r. GivesEffect A.Alg alg.new r (λ v. guest_row instr.now (values_of (λ w. A.word w v) from.now))) }
-{
-    row(alg, instr, from)
 }

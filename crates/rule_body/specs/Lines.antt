@@ -1,11 +1,13 @@
 -- Which ops a body may have, for a window. This project's own.
-use Rattle.std.specs.Prelude.{◌≡◌, ◌⊎◌, ℕ, ◌+◌, ◌-◌, ◌*◌, ◌<◌, ◌≤◌, ◌==◌, ◌&&◌, ◌||◌, nat_lt, Bool, false, IsTrue, List, Option, Some, None, slice_get, IsBitSet}
+use Rattle.std.specs.Prelude.{◌≡◌, ◌⊎◌, ℕ, ◌+◌, ◌-◌, ◌*◌, ◌%◌, ◌^◌, ◌<◌, ◌≤◌, ◌==◌, ◌&&◌, ◌||◌, nat_lt, Bool, false, IsTrue, List, Option, Some, None, slice_get, IsBitSet}
 use Rattle.std.specs.List.{AllByRecursion}
+use Rattle.word_kit.specs.Prelude.{sign_extended}
 use Rattle.ia_codec.specs.declared.op.Operand.{Operand}
 use Rattle.ia_codec.specs.declared.op.Operand.TheVariants.{Reg, Abs, Base, Pair}
 use Rattle.ia_codec.specs.declared.op.Op.{Op}
 use Rattle.ia_codec.specs.Prelude.{IsInProfile}
 use Rattle.rule_body.specs.declared.line.Hole.{Hole}
+use Rattle.rule_body.specs.declared.line.Hole.TheVariants.{S, Z, H, N}
 use Rattle.rule_body.specs.declared.line.HostLine.{HostLine}
 use Rattle.rule_body.specs.declared.operands.OpParts.{OpParts}
 use Rattle.rule_body.specs.Templates.{Template, slot_count, HasConstant}
@@ -38,6 +40,14 @@ abbrev pub IsHoleFor : Template → Op → Option (Hole × ℕ) → Type 0
 IsHoleFor t op None = Unit {0}
 IsHoleFor t op (Some hole) = HasConstant t.guests hole.1 × (filled op ≡ Some 0)
 
+-- the number with which a constant fills a hole: as signed, as unsigned, multiplied by 65536, as signed and negated
+abbrev pub hole_value : Hole → ℕ → ℕ
+hole_value S c = sign_extended 16 c
+hole_value Z c = c
+hole_value H c = 65536 * c
+hole_value N c = (2 ^ 32 - sign_extended 16 c) % 2 ^ 32
+
+-- Each register and operand may stand there, and so may the hole.
 pub record IsHostLine (t : Template) (line : HostLine) : Type 0 where
   pub profile : IsInProfile line.op
   pub straight : IsTrue (is_straight line.op)

@@ -7,6 +7,6 @@ pub use Rattle.rule_body.specs.Templates.{AreGuests, AreStraight, IsBranching, I
 pub use Rattle.rule_body.specs.Goals.{IsGoal, IsTidy, guests, guests_of, template_of}
 pub use Rattle.rule_body.specs.Ops.{operand_registers, registers}
 unfoldable pub use Rattle.rule_body.specs.Ops.{accesses, is_straight, parts}
-pub use Rattle.rule_body.specs.Lines.{IsHoleFor, IsHome, IsHostLine, IsOperandFor, is_usable}
+pub use Rattle.rule_body.specs.Lines.{IsHoleFor, IsHome, IsHostLine, IsOperandFor, hole_value, is_usable}
 pub use Rattle.rule_body.specs.Bodies.{AreHostLines, IsBody, IsTake, lines_of, no_line}
 pub use Rattle.rule_body.specs.Rules.{AreRising, AreRules, IsRule}

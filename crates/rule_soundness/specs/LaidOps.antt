@@ -4,8 +4,8 @@ use Rattle.machines.specs.Prelude.{Operand, Reg, Abs, Base, Pair, Op, AluTo, Alu
 use Rattle.rule_body.specs.declared.body.Body.{Body}
 use Rattle.rule_body.specs.declared.line.Hole.{Hole}
 use Rattle.rule_body.specs.declared.line.HostLine.{HostLine}
-use Rattle.rule_body.specs.Prelude.{lines_of}
-use Rattle.rule_soundness.specs.Matches.{Match, hole_value}
+use Rattle.rule_body.specs.Prelude.{hole_value, lines_of}
+use Rattle.rule_soundness.specs.Matches.{Match}
 
 -- eax, ecx and edx stay
 abbrev pub register_of : Match → ℕ → ℕ

@@ -1,9 +1,7 @@
 -- What a place where a rule is laid gives it. This project's own.
 use Rattle.std.specs.Prelude.{◌≡◌, ◌≢◌, ℕ, ◌+◌, ◌*◌, ◌-◌, ◌%◌, ◌^◌, ◌<◌, ◌==◌, if◌then◌else◌, Bool, true, false, List, take, length, slice_get, Option, Some, None}
-use Rattle.machines.specs.Prelude.{sign_extended, Instr, Immediate, Load, Store, LoadIndexed, StoreIndexed, Addi, Addis, Map, ebx, esi, edi}
+use Rattle.machines.specs.Prelude.{Instr, Immediate, Load, Store, LoadIndexed, StoreIndexed, Addi, Addis, Map, ebx, esi, edi}
 use Rattle.reg_map.specs.Prelude.{slot_of}
-use Rattle.rule_body.specs.declared.line.Hole.{Hole}
-use Rattle.rule_body.specs.declared.line.Hole.TheVariants.{S, Z, H, N}
 use Rattle.rule_body.specs.Prelude.{slot_count}
 
 -- What a rule leaves open and a place settles: the GPR of each parameter, the register that stands for each of ebx, esi and
@@ -43,10 +41,3 @@ pub record IsMatch (slots : List Bool) (words : List Instr) (map : Map) (m : Mat
   pub in_slots : (k : ℕ) → slice_get slots k ≡ Some true → slot_of map (m.gpr (k + 1)) ≡ Some (m.register (body_slot slots k))
   pub at_home : (k : ℕ) → slice_get slots k ≡ Some false → slot_of map (m.gpr (k + 1)) ≡ None
   pub constants : (j : ℕ) → m.constant j < 2 ^ 16
-
--- the number with which a constant fills a hole: as signed, as unsigned, multiplied by 65536, as signed and negated
-abbrev pub hole_value : Hole → ℕ → ℕ
-hole_value S c = sign_extended 16 c
-hole_value Z c = c
-hole_value H c = 65536 * c
-hole_value N c = (2 ^ 32 - sign_extended 16 c) % 2 ^ 32

@@ -1,5 +1,6 @@
 -- What is cited of these specifications, for one `use` line.
-pub use Rattle.rule_soundness.specs.Matches.{IsMatch, Match, base_field, body_slot, hole_value, slot_register}
+pub use Rattle.rule_body.specs.Prelude.{hole_value}
+pub use Rattle.rule_soundness.specs.Matches.{IsMatch, Match, base_field, body_slot, slot_register}
 pub use Rattle.rule_soundness.specs.LaidWords.{bound, count_field, filled, register_field}
 unfoldable pub use Rattle.rule_soundness.specs.LaidWords.{laid_words}
 pub use Rattle.rule_soundness.specs.LaidOps.{displaced, filled_hole, filled_op, laid_line, laid_ops, offset_of, placed, placed_operand, register_of}
