@@ -4,26 +4,21 @@ use Rattle.std.specs.List.{All}
 use Rattle.std.proofs.lemmas.List.Elements.{All-push}
 use Rattle.std.proofs.Math.Seq.{take-append_seam}
 use Rattle.word_kit.specs.Prelude.{IsLiteral, AreClauses}
-use Rattle.watched_literals.specs.Prelude.{HasConflict, IsWithin, IsOpen, IsReady, IsAbove, IsComplete, AllWatched}
+use Rattle.watched_literals.specs.Prelude.{IsWithin, IsReady, IsAbove, IsComplete, AllWatched}
 use Rattle.watched_literals.proofs.Trails.{Contains-nil}
 use Rattle.watched_literals.specs.declared.propagator.Propagator.{Propagator}
-use Rattle.watched_literals.proofs.Knowing.{open-of, refuted-of, known-settled}
+use Rattle.watched_literals.proofs.Knowing.{open-at, refuted-at, known-settled}
 use Rattle.sat_core.specs.Prelude.{IsLesson, AreLearned, IsRefuted, IsClosedUnder}
 use Rattle.sat_core.proofs.Learned.{learned-more, refuted-end}
 
 -- ---- the root
-
-pub open-at : (known : List (List ℤ)) (s : Propagator) → s.refuted ≡ false → IsReady known s
-    → IsOpen known s.trail.room s.clauses.items s.watches.pairs.items s.watches.rows.items s.watches.pending s.trail.literals
-open-at known s e ready = open-of s.refuted (HasConflict known [])
-    (IsOpen known s.trail.room s.clauses.items s.watches.pairs.items s.watches.rows.items s.watches.pending s.trail.literals) e ready
 
 -- nothing is assumed above the root
 pub rooted-above : (known : List (List ℤ)) (s : Propagator) → s.refuted ≡ false → IsReady known s → IsAbove known s.trail.literals s
 rooted-above known s e ready = record { open_root = e; base = open-at known s e ready; above = ([], sym (append-nil s.trail.literals)) }
 
 pub rooted-complete : (known : List (List ℤ)) (root : List ℤ) (s : Propagator) → s.trail.literals ≡ root → IsAbove known root s → IsComplete s
-rooted-complete known root s e h = subst (λ xs. AllWatched s.clauses.items s.watches.pairs.items xs xs) (sym e) h.base.watched
+rooted-complete known root s e h = subst (λ xs. AllWatched s.clauses.items s.pairs.items xs xs) (sym e) h.base.watched
 
 pub rooted-closed : (known : List (List ℤ)) (root assumed : List ℤ) (s : Propagator) → s.trail.literals ≡ root → assumed ≡ [] → IsAbove known root s
     → IsClosedUnder known assumed s.trail.literals
@@ -31,7 +26,7 @@ rooted-closed known root assumed s e f h =
     subst (IsClosedUnder known assumed) (sym e) (subst (λ xs. IsClosedUnder known xs root) (sym f) (record {
       made = h.base.made;
       consistent = h.base.consistent;
-      settled = known-settled s.trail.room s.clauses.items s.watches.pairs.items s.watches.rows.items known root root h.base.stored h.base.watched h.base.held (λ x m. m);
+      settled = known-settled s known root root h.base.stored h.base.watched h.base.held (λ x m. m);
       denied = λ x m. Contains-nil x m;
     }))
 
@@ -63,5 +58,4 @@ pub ended : (formula steps log : List (List ℤ)) (limit : ℕ) (s : Propagator)
     → IsRefuted formula limit log
 ended formula steps log limit s pushed e f is ready h within literals =
     subst (IsRefuted formula limit) (sym (e ∙ ap (λ x. steps ++ x ∷ []) f))
-    (refuted-end formula steps limit h within (refuted-of s.refuted (HasConflict (formula ++ steps) [])
-    (IsOpen (formula ++ steps) s.trail.room s.clauses.items s.watches.pairs.items s.watches.rows.items s.watches.pending s.trail.literals) is ready) literals)
+    (refuted-end formula steps limit h within (refuted-at (formula ++ steps) s is ready) literals)

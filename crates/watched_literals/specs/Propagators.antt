@@ -1,13 +1,13 @@
 -- All that is kept of known clauses, and what trying a clause tells.
-use Rattle.std.specs.Prelude.{◌≡◌, ◌≢◌, ◌⊎◌, [], ℕ, Bool, true, false, cond, List, ℤ, pos, neg_ℤ}
+use Rattle.std.specs.Prelude.{◌≡◌, ◌≢◌, ◌⊎◌, [], Bool, true, false, cond, List, ℤ, pos, neg_ℤ}
 use Rattle.std.specs.List.{Contains}
 use Rattle.watched_literals.specs.Propagation.{HasConflict, Follows}
 use Rattle.watched_literals.specs.Trails.{AreMadeTrue, IsConsistent, Extends, IsUnit, IsFalse, AllSettled, Refutes}
-use Rattle.watched_literals.specs.declared.watches.Pair.{Pair}
 use Rattle.watched_literals.specs.declared.standing.Standing.{Standing}
 use Rattle.watched_literals.specs.declared.standing.Standing.TheVariants as standing
 use Rattle.watched_literals.specs.declared.propagator.Propagator.{Propagator}
-use Rattle.watched_literals.specs.Watches.{IsStore, AllWatched, Moves, AreAmong, IsTrueIn}
+use Rattle.watched_literals.specs.Literals.{AreReasoned}
+use Rattle.watched_literals.specs.Watches.{IsStored, AllWatched, Moves, AreAmong, IsTrueIn}
 
 -- two literals of the clause that aren't false
 pub record IsOpenAt (trail clause : List ℤ) (one other : ℤ) : Type 0 where
@@ -27,40 +27,39 @@ Stands trail clause standing.False = IsFalse trail clause
 abbrev pub AreHeld : List (List ℤ) → List (List ℤ) → List ℤ → Type 0
 AreHeld known clauses trail = (clause : List ℤ) → Contains known clause → IsTrueIn trail clause ⊎ Contains clauses clause
 
--- the trail is what the known clauses make true where nothing is set to false
-pub record IsOpen (known : List (List ℤ)) (room : ℕ) (clauses : List (List ℤ)) (pairs : List Pair) (rows : List (List ℕ)) (pending : List ℕ) (trail : List ℤ) : Type 0 where
-  pub stored : IsStore room clauses pairs rows (pos 0) []
-  pub idle : pending ≡ []
-  pub among : AreAmong clauses known
-  pub held : AreHeld known clauses trail
+-- the reason of each true literal is a clause that was unit
+abbrev pub IsReasoned : Propagator → Type 0
+IsReasoned s = AreReasoned s.clauses.items s.trail
+
+-- these literals are what the known clauses make true where nothing is set to false
+pub record IsOpen (known : List (List ℤ)) (s : Propagator) (trail : List ℤ) : Type 0 where
+  pub stored : IsStored s (pos 0) []
+  pub idle : s.pending ≡ []
+  pub among : AreAmong s.clauses.items known
+  pub held : AreHeld known s.clauses.items trail
   pub made : AreMadeTrue known [] trail
   pub consistent : IsConsistent trail
-  pub watched : AllWatched clauses pairs trail trail
+  pub watched : AllWatched s.clauses.items s.pairs.items trail trail
 
 -- the known clauses are refuted, or stand as above
 abbrev pub IsReady : List (List ℤ) → Propagator → Type 0
-IsReady known s = cond s.refuted (HasConflict known [])
-    (IsOpen known s.trail.room s.clauses.items s.watches.pairs.items s.watches.rows.items s.watches.pending s.trail.literals)
+IsReady known s = cond s.refuted (HasConflict known []) (IsOpen known s s.trail.literals)
 
 -- what setting the literals of a clause to false leads to
-pub record IsTried (room : ℕ) (clauses : List (List ℤ)) (clause : List ℤ) (pairs : List Pair) (trail : List ℤ)
-    (pairs_after : List Pair) (rows_after : List (List ℕ)) (pending_after : List ℕ) (trail_after : List ℤ) (yes : Bool) : Type 0 where
-  pub stored : IsStore room clauses pairs_after rows_after (pos 0) []
-  pub idle : pending_after ≡ []
-  pub moves : Moves trail pairs pairs_after
-  pub extends : Extends trail trail_after
-  pub follows : yes ≡ true → (known : List (List ℤ)) → AreAmong clauses known → AreMadeTrue known [] trail → Follows known clause
-  pub fails : yes ≡ false → (known : List (List ℤ)) → AreHeld known clauses trail → IsConsistent trail → ¬ Follows known clause
+pub record IsTried (clause : List ℤ) (old new : Propagator) (yes : Bool) : Type 0 where
+  pub stored : IsStored new (pos 0) []
+  pub idle : new.pending ≡ []
+  pub moves : Moves old.trail.literals old.pairs.items new.pairs.items
+  pub extends : Extends old.trail.literals new.trail.literals
+  pub follows : yes ≡ true → (known : List (List ℤ)) → AreAmong old.clauses.items known → AreMadeTrue known [] old.trail.literals → Follows known clause
+  pub fails : yes ≡ false → (known : List (List ℤ)) → AreHeld known old.clauses.items old.trail.literals → IsConsistent old.trail.literals
+      → ¬ Follows known clause
 
 -- what was assumed stands above a root, at which the known clauses stand as where nothing is assumed
 pub record IsAbove (known : List (List ℤ)) (root : List ℤ) (s : Propagator) : Type 0 where
   pub open_root : s.refuted ≡ false
-  pub base : IsOpen known s.trail.room s.clauses.items s.watches.pairs.items s.watches.rows.items s.watches.pending root
+  pub base : IsOpen known s root
   pub above : Extends root s.trail.literals
-
--- nothing is left to propagate
-abbrev pub IsComplete : Propagator → Type 0
-IsComplete s = AllWatched s.clauses.items s.watches.pairs.items s.trail.literals s.trail.literals
 
 -- a trail grows by all that the known clauses make true
 pub record Completes (known : List (List ℤ)) (old new : List ℤ) : Type 0 where

@@ -5,6 +5,7 @@ use Rattle.watched_literals.specs.Propagation.{HasConflict}
 use Rattle.watched_literals.specs.Trails.{AreMadeTrue, IsConsistent, Extends, unset}
 use Rattle.watched_literals.specs.Literals.{code, IsWithin}
 use Rattle.watched_literals.specs.declared.watches.Pair.{Pair}
+use Rattle.watched_literals.specs.declared.propagator.Propagator.{Propagator}
 
 abbrev pub IsWatch : Pair → ℤ → Type 0
 IsWatch pair literal = (literal ≡ pair.one) ⊎ (literal ≡ pair.other)
@@ -29,6 +30,10 @@ pub record IsStore (room : ℕ) (clauses : List (List ℤ)) (pairs : List Pair) 
   pub awaited : (place : ℕ) → Contains pending place → place < length clauses
   pub complete : (place : ℕ) → place < length clauses → (literal : ℤ) → IsWatch (slice_index_or pairs place no_pair) literal
       → Contains (slice_index_or rows (code literal) []) place ⊎ ((literal ≡ off) × Contains pending place)
+
+-- the same of what a propagator keeps
+abbrev pub IsStored : Propagator → ℤ → List ℕ → Type 0
+IsStored s off pending = IsStore s.trail.room s.clauses.items s.pairs.items s.rows.items off pending
 
 -- neither watched literal is false
 abbrev pub IsFree : List ℤ → Pair → Type 0
@@ -69,33 +74,47 @@ pub record Rises (clauses : List (List ℤ)) (old new : List ℤ) : Type 0 where
 abbrev pub Fails : List (List ℤ) → List ℤ → Type 0
 Fails clauses trail = (known : List (List ℤ)) → AreAmong clauses known → (falses : List ℤ) → AreMadeTrue known falses trail → HasConflict known falses
 
+-- nothing is left to propagate
+abbrev pub IsComplete : Propagator → Type 0
+IsComplete s = AllWatched s.clauses.items s.pairs.items s.trail.literals s.trail.literals
+
+-- the clauses, the room for literals, and whether the clauses are refuted, stay
+pub record Keeps (old new : Propagator) : Type 0 where
+  pub clauses : new.clauses.items ≡ old.clauses.items
+  pub room : new.trail.room ≡ old.trail.room
+  pub refuted : new.refuted ≡ old.refuted
+
 -- what looking at a pending clause does
-pub record Rewatches (room : ℕ) (clauses : List (List ℤ)) (off : ℤ) (place : ℕ)
-    (pairs : List Pair) (rows : List (List ℕ)) (pending : List ℕ) (trail : List ℤ)
-    (pairs_after : List Pair) (rows_after : List (List ℕ)) (pending_after : List ℕ) (trail_after : List ℤ) (fails : Bool) : Type 0 where
-  pub stored : IsStore room clauses pairs_after rows_after off pending_after
-  pub moves : Moves trail pairs pairs_after
-  pub rises : Rises clauses trail trail_after
-  pub handled : AreHandled clauses off pairs (pending ++ place ∷ []) trail → AreHandled clauses off pairs_after pending_after trail_after
-  pub failure : fails ≡ true → Fails clauses trail
-  pub rest : fails ≡ false → pending_after ≡ pending
+pub record Rewatches (off : ℤ) (place : ℕ) (old new : Propagator) (fails : Bool) : Type 0 where
+  pub stored : IsStored new off new.pending
+  pub moves : Moves old.trail.literals old.pairs.items new.pairs.items
+  pub rises : Rises old.clauses.items old.trail.literals new.trail.literals
+  pub handled : AreHandled old.clauses.items off old.pairs.items (old.pending ++ place ∷ []) old.trail.literals
+      → AreHandled new.clauses.items off new.pairs.items new.pending new.trail.literals
+  pub failure : fails ≡ true → Fails old.clauses.items old.trail.literals
+  pub rest : fails ≡ false → new.pending ≡ old.pending
 
 -- what visiting a literal that became true does
-pub record Visits (room : ℕ) (clauses : List (List ℤ)) (literal : ℤ) (pairs : List Pair) (trail : List ℤ)
-    (pairs_after : List Pair) (rows_after : List (List ℕ)) (pending_after : List ℕ) (trail_after : List ℤ) (fails : Bool) : Type 0 where
-  pub stored : IsStore room clauses pairs_after rows_after (pos 0) []
-  pub idle : pending_after ≡ []
-  pub moves : Moves trail pairs pairs_after
-  pub rises : Rises clauses trail trail_after
-  pub handled : fails ≢ true → AreHandled clauses (neg_ℤ literal) pairs_after [] trail_after
-  pub failure : fails ≡ true → Fails clauses trail
+pub record Visits (literal : ℤ) (old new : Propagator) (fails : Bool) : Type 0 where
+  pub stored : IsStored new (pos 0) []
+  pub idle : new.pending ≡ []
+  pub moves : Moves old.trail.literals old.pairs.items new.pairs.items
+  pub rises : Rises old.clauses.items old.trail.literals new.trail.literals
+  pub handled : fails ≢ true → AreHandled new.clauses.items (neg_ℤ literal) new.pairs.items [] new.trail.literals
+  pub failure : fails ≡ true → Fails old.clauses.items old.trail.literals
 
 -- what propagation does
-pub record Propagates (room : ℕ) (clauses : List (List ℤ)) (pairs : List Pair) (trail : List ℤ)
-    (pairs_after : List Pair) (rows_after : List (List ℕ)) (pending_after : List ℕ) (trail_after : List ℤ) (fails : Bool) : Type 0 where
-  pub stored : IsStore room clauses pairs_after rows_after (pos 0) []
-  pub idle : pending_after ≡ []
-  pub moves : Moves trail pairs pairs_after
-  pub rises : Rises clauses trail trail_after
-  pub watched : fails ≢ true → AllWatched clauses pairs_after trail_after trail_after
-  pub failure : fails ≡ true → Fails clauses trail
+pub record Propagates (old new : Propagator) (fails : Bool) : Type 0 where
+  pub stored : IsStored new (pos 0) []
+  pub idle : new.pending ≡ []
+  pub moves : Moves old.trail.literals old.pairs.items new.pairs.items
+  pub rises : Rises old.clauses.items old.trail.literals new.trail.literals
+  pub watched : fails ≢ true → IsComplete new
+  pub failure : fails ≡ true → Fails old.clauses.items old.trail.literals
+
+-- one clause more is watched by these two literals
+pub record Watches (clause : List ℤ) (pair : Pair) (old new : Propagator) : Type 0 where
+  pub clauses : new.clauses.items ≡ old.clauses.items ++ clause ∷ []
+  pub pairs : new.pairs.items ≡ old.pairs.items ++ pair ∷ []
+  pub pending : new.pending ≡ old.pending
+  pub stored : IsStored new (pos 0) []

@@ -6,26 +6,30 @@ ghost use Rattle.std.specs.Ordering.{int_eq};
 ghost use Rattle.watched_literals.specs.Propagation.{Follows};
 ghost use Rattle.watched_literals.specs.Trails.{Denies};
 ghost use Rattle.watched_literals.specs.Literals.{IsWithin, AreReasoned, clause_at};
-ghost use Rattle.watched_literals.specs.Watches.{IsStore, IsPair, AllWatched};
-ghost use Rattle.watched_literals.specs.Propagators.{IsReady, IsTried, IsAbove, IsComplete, Spreads};
+ghost use Rattle.watched_literals.specs.Watches.{IsStored, IsComplete, Keeps};
+ghost use Rattle.watched_literals.specs.Propagators.{IsReady, IsReasoned, IsTried, IsAbove, Spreads};
 
 use crate::clauses::Literals;
 use crate::lists::WatchList;
 use crate::literal::Literal;
 use crate::standing::{Standing, standing_of};
 use crate::trail::Trail;
-use crate::watches::{Pair, Watches, list};
+use crate::watches::Pair;
 use std::alloc::Global;
 use word_kit::NoMemory;
 
-/// Known clauses that are watched, the literals that the known clauses make true by unit propagation, and whether a known
-/// clause is false.
+/// Known clauses, the two watched literals of each, for each literal by its number the places of the clauses that watch it,
+/// those of them that are still to be looked at, the literals that are true, the clause that became false last, and whether a known
+/// clause is false where nothing is assumed.
 #[derive(Drop)]
 pub struct Propagator {
-    alloc: Global,
-    clauses: Vec<Literals>,
-    watches: Watches,
-    trail: Trail,
+    pub(crate) alloc: Global,
+    pub(crate) clauses: Vec<Literals>,
+    pub(crate) pairs: Vec<Pair>,
+    pub(crate) rows: Vec<WatchList>,
+    pub(crate) pending: WatchList,
+    pub(crate) trail: Trail,
+    pub(crate) conflict: Option<usize>,
     refuted: bool,
 }
 
@@ -48,61 +52,11 @@ fn deny(clause: &[Literal], trail: &mut Trail) -> Result<bool, NoMemory>
     Ok(false)
 }
 
-/// Watches two literals of one clause more.
-fn watch(
-    alloc: Global,
-    clauses: &mut Vec<Literals>,
-    watches: &mut Watches,
-    clause: &[Literal],
-    one: Literal,
-    other: Literal,
-) -> Result<(), NoMemory>
-    requires stored { IsStore (length watches.old.rows.items) clauses.old.items watches.old.pairs.items watches.old.rows.items (pos 0) [] }
-    requires within { All (IsWithin (length watches.old.rows.items)) clause.now }
-    requires pair { IsPair clause.now (record { one = one; other = other }) }
-    ensures clauses { OnOk result (clauses.new.items ≡ clauses.old.items ++ clause.now ∷ []) }
-    ensures pairs { OnOk result (watches.new.pairs.items ≡ watches.old.pairs.items ++ (record { one = one; other = other }) ∷ []) }
-    ensures pending { watches.new.pending ≡ watches.old.pending }
-    ensures stored { OnOk result (IsStore (length watches.old.rows.items) clauses.new.items watches.new.pairs.items watches.new.rows.items (pos 0) []) }
-{
-    let place = clauses.len();
-    let literals = Vec::from_slice(alloc, clause)?;
-    clauses.push(Literals::from(literals))?;
-    watches.pairs.push(Pair { one, other })?;
-    list(&mut watches.rows, one, place)?;
-    list(&mut watches.rows, other, place)?;
-    Ok(())
-}
-
-/// Whether setting the literals of the clause to false leads to a clause that is false.
-fn attempt(
-    clauses: &[Literals],
-    watches: &mut Watches,
-    trail: &mut Trail,
-    clause: &[Literal],
-) -> Result<bool, NoMemory>
-    requires stored { IsStore trail.old.room clauses.now watches.old.pairs.items watches.old.rows.items (pos 0) [] }
-    requires idle { watches.old.pending ≡ [] }
-    requires watched { AllWatched clauses.now watches.old.pairs.items trail.old.literals trail.old.literals }
-    requires literals { All (IsWithin trail.old.room) clause.now }
-    ensures room { trail.new.room ≡ trail.old.room }
-    ensures reasons { OnOk result (AreReasoned clauses.now trail.old → AreReasoned clauses.now trail.new) }
-    ensures tried { IfOk result (λ yes. IsTried trail.old.room clauses.now clause.now watches.old.pairs.items trail.old.literals
-        watches.new.pairs.items watches.new.rows.items watches.new.pending trail.new.literals yes) }
-{
-    let visited = trail.len();
-    if deny(clause, trail)? {
-        return Ok(true);
-    }
-    let fails = watches.propagate(clauses, trail, visited)?;
-    Ok(fails)
-}
-
 impl Propagator {
     /// No clause is known. Literals may have numbers below `room`.
     pub fn new(alloc: Global, room: usize) -> Result<Propagator, NoMemory>
         ensures room { IfOk result (λ s. s.trail.room ≡ room) }
-        ensures reasons { IfOk result (λ s. AreReasoned s.clauses.items s.trail) }
+        ensures reasons { IfOk result IsReasoned }
         ensures ready { IfOk result (IsReady []) }
     {
         let mut rows = Vec::new(alloc);
@@ -113,13 +67,11 @@ impl Propagator {
         Ok(Propagator {
             alloc,
             clauses: Vec::new(alloc),
-            watches: Watches {
-                pairs: Vec::new(alloc),
-                rows,
-                pending: WatchList::new(alloc),
-                conflict: None,
-            },
+            pairs: Vec::new(alloc),
+            rows,
+            pending: WatchList::new(alloc),
             trail,
+            conflict: None,
             refuted: false,
         })
     }
@@ -142,7 +94,7 @@ impl Propagator {
         requires ready { (known : List (List ℤ)) × IsReady known self.old }
         requires literals { All (IsWithin self.old.trail.room) clause.now }
         ensures room { self.new.trail.room ≡ self.old.trail.room }
-        ensures reasons { OnOk result (AreReasoned self.old.clauses.items self.old.trail → AreReasoned self.new.clauses.items self.new.trail) }
+        ensures reasons { OnOk result (IsReasoned self.old → IsReasoned self.new) }
         ensures ready { OnOk result ((known : List (List ℤ)) → IsReady known self.old → IsReady (known ++ clause.now ∷ []) self.new) }
     {
         if self.refuted {
@@ -151,21 +103,12 @@ impl Propagator {
         match standing_of(clause, &self.trail) {
             Standing::True => {}
             Standing::Open(one, other) => {
-                watch(
-                    self.alloc,
-                    &mut self.clauses,
-                    &mut self.watches,
-                    clause,
-                    one,
-                    other,
-                )?;
+                self.watch(clause, one, other)?;
             }
             Standing::Unit(literal) => {
                 let visited = self.trail.len();
                 self.trail.push(literal, None)?;
-                self.refuted = self
-                    .watches
-                    .propagate(self.clauses.as_slice(), &mut self.trail, visited)?;
+                self.refuted = self.propagate(visited)?;
             }
             Standing::False => {
                 self.refuted = true;
@@ -174,25 +117,38 @@ impl Propagator {
         Ok(())
     }
 
+    /// Whether setting the literals of the clause to false leads to a clause that is false.
+    fn attempt(&mut self, clause: &[Literal]) -> Result<bool, NoMemory>
+        requires stored { IsStored self.old (pos 0) [] }
+        requires idle { self.old.pending ≡ [] }
+        requires complete { IsComplete self.old }
+        requires literals { All (IsWithin self.old.trail.room) clause.now }
+        ensures keeps { Keeps self.old self.new }
+        ensures reasons { OnOk result (IsReasoned self.old → IsReasoned self.new) }
+        ensures tried { IfOk result (λ yes. IsTried clause.now self.old self.new yes) }
+    {
+        let visited = self.trail.len();
+        if deny(clause, &mut self.trail)? {
+            return Ok(true);
+        }
+        let fails = self.propagate(visited)?;
+        Ok(fails)
+    }
+
     /// Whether the clause follows from the known ones.
     pub fn follows(&mut self, clause: &[Literal]) -> Result<bool, NoMemory>
         requires ready { (known : List (List ℤ)) × IsReady known self.old }
         requires literals { All (IsWithin self.old.trail.room) clause.now }
         ensures room { self.new.trail.room ≡ self.old.trail.room }
         ensures follows { IfOk result (λ yes. (known : List (List ℤ)) → IsReady known self.old → Decides yes (Follows known clause.now)) }
-        ensures reasons { OnOk result (AreReasoned self.old.clauses.items self.old.trail → AreReasoned self.new.clauses.items self.new.trail) }
+        ensures reasons { OnOk result (IsReasoned self.old → IsReasoned self.new) }
         ensures ready { OnOk result ((known : List (List ℤ)) → IsReady known self.old → IsReady known self.new) }
     {
         if self.refuted {
             return Ok(true);
         }
         let root = self.trail.len();
-        let follows = attempt(
-            self.clauses.as_slice(),
-            &mut self.watches,
-            &mut self.trail,
-            clause,
-        )?;
+        let follows = self.attempt(clause)?;
         self.trail.truncate(root);
         Ok(follows)
     }
@@ -204,7 +160,7 @@ impl Propagator {
         requires literal { IsWithin self.old.trail.room literal }
         requires fresh { ¬ Contains self.old.trail.literals literal }
         ensures room { self.new.trail.room ≡ self.old.trail.room }
-        ensures reasons { OnOk result (AreReasoned self.old.clauses.items self.old.trail → AreReasoned self.new.clauses.items self.new.trail) }
+        ensures reasons { OnOk result (IsReasoned self.old → IsReasoned self.new) }
         ensures above { OnOk result ((known : List (List ℤ)) (root : List ℤ) → IsAbove known root self.old → IsAbove known root self.new) }
         ensures complete { IfOk result (λ fails. fails ≢ true → IsComplete self.new) }
         ensures spreads { IfOk result (λ fails. (known : List (List ℤ)) (root : List ℤ) → IsAbove known root self.old
@@ -212,9 +168,7 @@ impl Propagator {
     {
         let visited = self.trail.len();
         self.trail.push(literal, None)?;
-        let fails = self
-            .watches
-            .propagate(self.clauses.as_slice(), &mut self.trail, visited)?;
+        let fails = self.propagate(visited)?;
         Ok(fails)
     }
 
@@ -222,7 +176,7 @@ impl Propagator {
     pub fn restart(&mut self, count: usize)
         ensures room { self.new.trail.room ≡ self.old.trail.room }
         ensures literals { self.new.trail.literals ≡ take count self.old.trail.literals }
-        ensures reasons { AreReasoned self.old.clauses.items self.old.trail → AreReasoned self.new.clauses.items self.new.trail }
+        ensures reasons { IsReasoned self.old → IsReasoned self.new }
         ensures ready { (known : List (List ℤ)) (root : List ℤ) → count ≡ length root → IsAbove known root self.old → IsReady known self.new }
         ensures above { (known : List (List ℤ)) (root : List ℤ) → count ≡ length root → IsAbove known root self.old → IsAbove known root self.new }
     {
@@ -285,9 +239,9 @@ impl Propagator {
 
     /// The clause that became false last, or no literals.
     pub fn conflict(&self) -> &[Literal]
-        ensures { result.now ≡ clause_at self.now.clauses.items self.now.watches.conflict }
+        ensures { result.now ≡ clause_at self.now.clauses.items self.now.conflict }
     {
-        self.literals_at(self.watches.conflict)
+        self.literals_at(self.conflict)
     }
 
     fn literals_at(&self, place: Option<usize>) -> &[Literal]

@@ -1,12 +1,14 @@
 //! Unit propagation by two watched literals a clause.
 ghost use Rattle.std.specs.Prelude.{◌≡◌, ◌≢◌, ◌<◌, ◌≤◌, ◌++◌, ◌∷◌, [], ℤ, neg_ℤ, pos, length, take, slice_index_or, slice_set, IfOk, OnOk, MatchOption};
 ghost use Rattle.std.specs.List.{All, Contains};
-ghost use Rattle.watched_literals.specs.Literals.{code, IsWithin, AreReasoned};
-ghost use Rattle.watched_literals.specs.Watches.{IsWatch, IsStore, Rewatches, Visits, Propagates, AllWatched};
+ghost use Rattle.watched_literals.specs.Literals.{code, IsWithin};
+ghost use Rattle.watched_literals.specs.Watches.{IsWatch, IsPair, IsStored, Keeps, Rewatches, Visits, Propagates, Watches, AllWatched};
+ghost use Rattle.watched_literals.specs.Propagators.{IsReasoned};
 
 use crate::clauses::Literals;
 use crate::lists::WatchList;
 use crate::literal::Literal;
+use crate::propagator::Propagator;
 use crate::trail::Trail;
 use std::mem;
 use word_kit::NoMemory;
@@ -32,16 +34,6 @@ impl Pair {
     }
 }
 
-/// The watched literals of each clause, for each literal by its number the places of the clauses that watch it, those that are
-/// still to be looked at, and the clause that became false last.
-#[derive(Drop)]
-pub struct Watches {
-    pub pairs: Vec<Pair>,
-    pub rows: Vec<WatchList>,
-    pub pending: WatchList,
-    pub conflict: Option<usize>,
-}
-
 /// A literal of the clause that isn't false, apart from this one.
 fn unfalse(clause: &[Literal], trail: &Trail, but: Literal) -> Option<Literal>
     requires { All (IsWithin trail.now.room) clause.now }
@@ -58,7 +50,7 @@ fn unfalse(clause: &[Literal], trail: &Trail, but: Literal) -> Option<Literal>
 }
 
 /// Puts the place into the row of the literal.
-pub fn list(rows: &mut Vec<WatchList>, literal: Literal, place: usize) -> Result<(), NoMemory>
+fn list(rows: &mut Vec<WatchList>, literal: Literal, place: usize) -> Result<(), NoMemory>
     requires within { code literal < length rows.old.items }
     ensures { OnOk result (rows.new.items ≡ slice_set rows.old.items (code literal) (slice_index_or rows.old.items (code literal) [] ++ place ∷ [])) }
 {
@@ -66,44 +58,59 @@ pub fn list(rows: &mut Vec<WatchList>, literal: Literal, place: usize) -> Result
     Ok(())
 }
 
-impl Watches {
-    /// Looks at the clause at this place, one of whose watched literals is the false `off`.
-    fn rewatch(
+impl Propagator {
+    /// Watches two literals of one clause more.
+    pub(crate) fn watch(
         &mut self,
-        clauses: &[Literals],
-        trail: &mut Trail,
-        place: usize,
-        off: Literal,
-    ) -> Result<bool, NoMemory>
-        requires inside { place < length clauses.now }
-        requires stored { IsStore trail.old.room clauses.now self.old.pairs.items self.old.rows.items off (self.old.pending ++ place ∷ []) }
-        requires off { IsWithin trail.old.room off }
-        requires false_off { Contains trail.old.literals (neg_ℤ off) }
-        ensures room { trail.new.room ≡ trail.old.room }
-        ensures reasons { OnOk result (AreReasoned clauses.now trail.old → AreReasoned clauses.now trail.new) }
-        ensures rewatches { IfOk result (λ fails. Rewatches trail.old.room clauses.now off place
-            self.old.pairs.items self.old.rows.items self.old.pending trail.old.literals
-            self.new.pairs.items self.new.rows.items self.new.pending trail.new.literals fails) }
+        clause: &[Literal],
+        one: Literal,
+        other: Literal,
+    ) -> Result<(), NoMemory>
+        requires stored { IsStored self.old (pos 0) [] }
+        requires within { All (IsWithin self.old.trail.room) clause.now }
+        requires pair { IsPair clause.now (record { one = one; other = other }) }
+        ensures trail { self.new.trail ≡ self.old.trail }
+        ensures refuted { self.new.refuted ≡ self.old.refuted }
+        ensures watches { OnOk result (Watches clause.now (record { one = one; other = other }) self.old self.new) }
+    {
+        let place = self.clauses.len();
+        let literals = Vec::from_slice(self.alloc, clause)?;
+        self.clauses.push(Literals::from(literals))?;
+        self.pairs.push(Pair { one, other })?;
+        list(&mut self.rows, one, place)?;
+        list(&mut self.rows, other, place)?;
+        Ok(())
+    }
+
+    /// Looks at the clause at this place, one of whose watched literals is the false `off`.
+    fn rewatch(&mut self, place: usize, off: Literal) -> Result<bool, NoMemory>
+        requires inside { place < length self.old.clauses.items }
+        requires stored { IsStored self.old off (self.old.pending ++ place ∷ []) }
+        requires off { IsWithin self.old.trail.room off }
+        requires false_off { Contains self.old.trail.literals (neg_ℤ off) }
+        ensures keeps { Keeps self.old self.new }
+        ensures reasons { OnOk result (IsReasoned self.old → IsReasoned self.new) }
+        ensures rewatches { IfOk result (λ fails. Rewatches off place self.old self.new fails) }
     {
         let pair = self.pairs[place];
         let other = pair.beside(off);
-        if trail.holds(other) {
+        if self.trail.holds(other) {
             list(&mut self.rows, off, place)?;
             return Ok(false);
         }
-        match unfalse(clauses[place].as_slice(), trail, other) {
+        match unfalse(self.clauses[place].as_slice(), &self.trail, other) {
             Some(one) => {
                 self.pairs[place] = Pair { one, other };
                 list(&mut self.rows, one, place)?;
                 Ok(false)
             }
             None => {
-                if trail.holds(other.opposite()) {
+                if self.trail.holds(other.opposite()) {
                     self.conflict = Some(place);
                     self.pending.push(place)?;
                     return Ok(true);
                 }
-                trail.push(other, Some(place))?;
+                self.trail.push(other, Some(place))?;
                 list(&mut self.rows, off, place)?;
                 Ok(false)
             }
@@ -111,27 +118,20 @@ impl Watches {
     }
 
     /// Looks at the clauses that watch the opposite of this true literal, until one of them is false.
-    fn visit(
-        &mut self,
-        clauses: &[Literals],
-        trail: &mut Trail,
-        literal: Literal,
-    ) -> Result<bool, NoMemory>
-        requires stored { IsStore trail.old.room clauses.now self.old.pairs.items self.old.rows.items (pos 0) [] }
+    fn visit(&mut self, literal: Literal) -> Result<bool, NoMemory>
+        requires stored { IsStored self.old (pos 0) [] }
         requires idle { self.old.pending ≡ [] }
-        requires literal { IsWithin trail.old.room literal }
-        requires is_true { Contains trail.old.literals literal }
-        ensures room { trail.new.room ≡ trail.old.room }
-        ensures reasons { OnOk result (AreReasoned clauses.now trail.old → AreReasoned clauses.now trail.new) }
-        ensures visits { IfOk result (λ fails. Visits trail.old.room clauses.now literal
-            self.old.pairs.items trail.old.literals
-            self.new.pairs.items self.new.rows.items self.new.pending trail.new.literals fails) }
+        requires literal { IsWithin self.old.trail.room literal }
+        requires is_true { Contains self.old.trail.literals literal }
+        ensures keeps { Keeps self.old self.new }
+        ensures reasons { OnOk result (IsReasoned self.old → IsReasoned self.new) }
+        ensures visits { IfOk result (λ fails. Visits literal self.old self.new fails) }
     {
         let off = literal.opposite();
         let row = off.code();
         mem::swap(&mut self.rows[row], &mut self.pending);
         while let Some(place) = self.pending.pop() {
-            if self.rewatch(clauses, trail, place, off)? {
+            if self.rewatch(place, off)? {
                 self.rows[row].append(&mut self.pending)?;
                 return Ok(true);
             }
@@ -141,26 +141,19 @@ impl Watches {
 
     /// Makes true what the clauses make true by unit propagation, and says whether a clause is false. The literals of the trail
     /// before `from` were visited already.
-    pub fn propagate(
-        &mut self,
-        clauses: &[Literals],
-        trail: &mut Trail,
-        from: usize,
-    ) -> Result<bool, NoMemory>
-        requires stored { IsStore trail.old.room clauses.now self.old.pairs.items self.old.rows.items (pos 0) [] }
+    pub(crate) fn propagate(&mut self, from: usize) -> Result<bool, NoMemory>
+        requires stored { IsStored self.old (pos 0) [] }
         requires idle { self.old.pending ≡ [] }
-        requires from { from ≤ length trail.old.literals }
-        requires watched { AllWatched clauses.now self.old.pairs.items (take from trail.old.literals) trail.old.literals }
-        ensures room { trail.new.room ≡ trail.old.room }
-        ensures reasons { OnOk result (AreReasoned clauses.now trail.old → AreReasoned clauses.now trail.new) }
-        ensures propagates { IfOk result (λ fails. Propagates trail.old.room clauses.now
-            self.old.pairs.items trail.old.literals
-            self.new.pairs.items self.new.rows.items self.new.pending trail.new.literals fails) }
+        requires from { from ≤ length self.old.trail.literals }
+        requires watched { AllWatched self.old.clauses.items self.old.pairs.items (take from self.old.trail.literals) self.old.trail.literals }
+        ensures keeps { Keeps self.old self.new }
+        ensures reasons { OnOk result (IsReasoned self.old → IsReasoned self.new) }
+        ensures propagates { IfOk result (λ fails. Propagates self.old self.new fails) }
     {
         let mut visited = from;
-        while visited < trail.len() {
-            let literal = trail.get(visited);
-            if self.visit(clauses, trail, literal)? {
+        while visited < self.trail.len() {
+            let literal = self.trail.get(visited);
+            if self.visit(literal)? {
                 return Ok(true);
             }
             visited += 1;
