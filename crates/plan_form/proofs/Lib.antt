@@ -5,3 +5,7 @@ mod Faulty
 pub mod Indexes
 mod Keyed
 mod Parts
+pub mod PlanGrammar
+pub mod TextEnds
+pub mod TextPrinted
+pub mod TextWords

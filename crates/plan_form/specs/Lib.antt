@@ -4,4 +4,8 @@ pub mod Full
 pub mod Labels
 pub mod Faults
 pub mod Keys
+pub mod Texts
+pub mod Machine
+pub mod Said
+pub mod TextFaults
 pub mod Prelude

@@ -56,7 +56,7 @@ module _ (goal : Goal) (m : Match) (set : ℕ → Bool) where
       (true_both (is_dead_name goal k) (location_named m k == location_named m k) e (equal_number (location_named m k) (location_named m k) refl)))
 
 -- the field of a base is a register field
-base_has : (i : Instr) (p : ℕ) → base_field i ≡ Some p → has_field i p ≡ true
+pub base_has : (i : Instr) (p : ℕ) → base_field i ≡ Some p → has_field i p ≡ true
 base_has (Immediate Addi d a imm) p e = let h : a ≡ p = cc in or_right (d == p) _ (or_left (a == p) _ (equal_number a p h))
 base_has (Immediate Addis d a imm) p e = let h : a ≡ p = cc in or_right (d == p) _ (or_left (a == p) _ (equal_number a p h))
 base_has (Load op d a imm) p e = let h : a ≡ p = cc in or_right (d == p) _ (or_left (a == p) _ (equal_number a p h))
@@ -65,7 +65,7 @@ base_has (LoadIndexed op d a b) p e = let h : a ≡ p = cc in or_right (d == p) 
 base_has (StoreIndexed op s a b) p e = let h : a ≡ p = cc in or_right (s == p) _ (or_left (a == p) _ (equal_number a p h))
 base_has _ p e = absurd cc
 
-among_at : (is : List Instr) (j p : ℕ) (i : Instr) → slice_get is j ≡ Some i → is_among p (numbers i) ≡ true → is_among p (flat_map numbers is) ≡ true
+pub among_at : (is : List Instr) (j p : ℕ) (i : Instr) → slice_get is j ≡ Some i → is_among p (numbers i) ≡ true → is_among p (flat_map numbers is) ≡ true
 among_at [] j p i e among = absurd cc
 among_at (h ∷ is) zero p i e among =
     let s : i ≡ h = cc in
@@ -73,7 +73,7 @@ among_at (h ∷ is) zero p i e among =
 among_at (h ∷ is) (suc j) p i e among =
     among_append p (numbers h) (flat_map numbers is) ∙ or_right (is_among p (numbers h)) (is_among p (flat_map numbers is)) (among_at is j p i e among)
 
-stands_at : (gs : List Guest) (is : List Instr) (j : ℕ) (i : Instr) → AreGuests gs is → slice_get is j ≡ Some i → MayStand i
+pub stands_at : (gs : List Guest) (is : List Instr) (j : ℕ) (i : Instr) → AreGuests gs is → slice_get is j ≡ Some i → MayStand i
 stands_at [] [] j i are e = absurd cc
 stands_at [] (h ∷ is) j i are e = absurd are
 stands_at (g ∷ gs) [] j i are e = absurd are
@@ -106,6 +106,17 @@ module _ (rule : Rule) (memory : List ℕ) (map : Map) (dead : Locs) (is_goal : 
 
   slots_are : length slots ≡ rule.goal.parameters
   slots_are = let l = lengths.2 in length-take-le rule.goal.parameters rule.goal.slots (omega (arith, l, six))
+
+  pub guests_are : length (guests_of rule.goal) ≡ rule.goal.count
+  guests_are = let count = is_goal.tidy.count in let w = lengths.0 in let f = lengths.1 in length-guests rule.goal.words rule.goal.free rule.goal.count (omega (arith, count, w)) (omega (arith, w, f))
+
+  -- the numbers of the words are those of the parameters
+  pub among_parameters : (words : List Instr) → AreGuests (guests_of rule.goal) words → (p : ℕ) → is_among p (flat_map numbers words) ≡ true → p ≤ rule.goal.parameters
+  among_parameters words are p e =
+      let same = one_window one (guests_of rule.goal) words placed.window are placed.is.words in
+      let n = numbers_below 0 (flat_map numbers placed.window) p (ap (λ is. is_among p (flat_map numbers is)) (sym same) ∙ e) in
+      let h = placed.parameters in
+      omega (arith, n, h, slots_are)
 
   module _ (b : Binding) (gprs_six : length b.gpr ≡ 6) where
     taken : length (take rule.goal.parameters b.gpr) ≡ rule.goal.parameters
@@ -156,21 +167,11 @@ module _ (rule : Rule) (memory : List ℕ) (map : Map) (dead : Locs) (is_goal : 
         }
 
   module _ (b : Binding) (at : IsBindingAt rule memory map dead b) where
-    guests_are : length (guests_of rule.goal) ≡ rule.goal.count
-    guests_are = let count = is_goal.tidy.count in let w = lengths.0 in let f = lengths.1 in length-guests rule.goal.words rule.goal.free rule.goal.count (omega (arith, count, w)) (omega (arith, w, f))
-
-    among_parameters : (p : ℕ) → is_among p (flat_map numbers at.words) ≡ true → p ≤ rule.goal.parameters
-    among_parameters p e =
-        let same = one_window one (guests_of rule.goal) at.words placed.window at.matches.window.words placed.is.words in
-        let n = numbers_below 0 (flat_map numbers placed.window) p (ap (λ is. is_among p (flat_map numbers is)) (sym same) ∙ e) in
-        let h = placed.parameters in
-        omega (arith, n, h, slots_are)
-
     base_some : (n : ℕ) (i : Instr) → slice_get at.words n ≡ Some i → (p : ℕ) → base_field i ≡ Some p → p ≢ 0 → gpr_of b p ≢ 0
     base_some n i e zero base some = absurd (some refl)
     base_some n i e (suc k) base some =
         let may = stands_at (guests_of rule.goal) at.words n i at.matches.window.words e in
-        let le = among_parameters (suc k) (among_at at.words n (suc k) i e (fields_are i (suc k) may some ∙ base_has i (suc k) base)) in
+        let le = among_parameters at.words at.matches.window.words (suc k) (among_at at.words n (suc k) i e (fields_are i (suc k) may some ∙ base_has i (suc k) base)) in
         let more : k + 1 ≡ suc k = omega arith in
         subst (λ q. gpr_of b q ≢ 0) more (at.matches.fits.bases k n i e (omega (arith, le, slots_are)) (base ∙ ap (λ (q : ℕ). Some q) (sym more)))
 

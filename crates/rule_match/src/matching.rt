@@ -1,9 +1,10 @@
 //! Where a rule matches.
 
-ghost use Rattle.std.specs.Prelude.{◌≡◌, ◌≢◌, ◌↔◌, ◌≤◌, ◌<◌, ℕ, IsTrue, IfSome, [], length, slice_index_or, true};
+ghost use Rattle.std.specs.Prelude.{◌≡◌, ◌≢◌, ◌↔◌, ◌≤◌, ◌<◌, ℕ, IsTrue, IfSome, IfNone, [], length, slice_index_or, true};
 ghost use Rattle.machines.specs.Prelude.{IsMap};
 ghost use Rattle.rule_body.specs.Prelude.{IsGoal};
-ghost use Rattle.rule_soundness.specs.Prelude.{is_dead_name, location_named as location_for};
+ghost use Rattle.rule_soundness.specs.Prelude.{Match, is_dead_name, location_named as location_for};
+ghost use Rattle.rule_soundness.specs.Laid.{Matches};
 ghost use Rattle.rule_match.specs.Bindings.{match_of, gpr_of as gpr_for};
 ghost use Rattle.rule_match.specs.Matching.{is_in, AreGprs, IsBindingAt};
 
@@ -120,12 +121,13 @@ pub fn is_match_at(rule: &Rule, window: &[u32], map: &Map, dead: &Locs, binding:
 /// the window: the window is that of the rule, with different GPRs in the place of parameters, none of them GPR 0 in a
 /// place where 0 names the number 0, and with any constant or target in a word that is free; each parameter stands in a
 /// slot or at home as the rule has it; and each dead name is dead. A branch stands last, as it does in a block. None
-/// where no binding makes the rule match.
+/// where the rule matches in no way.
 pub fn match_at(rule: &Rule, window: &[u32], map: &Map, dead: &Locs) -> Option<Binding>
     requires goal { IsGoal rule.now.goal }
     requires map { IsMap map.now }
     ensures found { IfSome result (λ b. IsBindingAt rule.now window.now map.now dead.now b) }
     ensures only { (b : Binding) → IsBindingAt rule.now window.now map.now dead.now b → result ≡ Some b }
+    ensures none { IfNone result ((m : Match) → Matches rule.now window.now map.now (is_in dead.now) m → ⊥) }
 {
     one_instruction();
     let goal = &rule.goal;
