@@ -291,10 +291,10 @@ access_divides (Multiple Stmw s a imm) = two (immediate_address (a == 0) a imm) 
 access_divides _ = refl
 
 -- the tiles
-pub alu_low : (i : Instr) (m : Map) → room_of (alu_symbols i) ≤ 631 → sum_by cost_of (ops_of (alu_symbols i) m) < 1024
+pub alu_low : (i : Instr) (m : Map) → room_of (alu_symbols i) ≤ 595 → sum_by cost_of (ops_of (alu_symbols i) m) < 1024
 alu_low i m short = let c = ops_cheap m (alu_symbols i) in let d = alu_divides i in omega (arith, c, d, short)
 
-pub access_low : (i : Instr) (m : Map) → room_of (access_symbols i) ≤ 631 → sum_by cost_of (ops_of (access_symbols i) m) < 1024
+pub access_low : (i : Instr) (m : Map) → room_of (access_symbols i) ≤ 595 → sum_by cost_of (ops_of (access_symbols i) m) < 1024
 access_low i m short = let c = ops_cheap m (access_symbols i) in let d = access_divides i in omega (arith, c, d, short)
 
 in_one : (o : Operand) → in_memory o ≤ 1

@@ -7,9 +7,10 @@ use Rattle.reg_map.specs.Prelude.{move_code}
 use Rattle.row_laws.specs.FlowWords.{is_flow}
 use Rattle.symbolic_tiles.specs.declared.flow_op.FlowOp.{FlowOp}
 use Rattle.symbolic_tiles.specs.declared.flow_op.FlowOp.TheVariants.{Plain, Jump, Mark, Edge, Leap}
-use Rattle.symbolic_tiles.specs.Prelude.{flows_of}
-use Rattle.base_alu.specs.Tile.{tile as alu_tile}
-use Rattle.base_mem.specs.Tile.{has_access, tile as access_tile}
+use Rattle.symbolic_tiles.specs.declared.symbolic_op.SymbolicOp.{SymbolicOp}
+use Rattle.symbolic_tiles.specs.Prelude.{flows_of, ops_of}
+use Rattle.base_alu.specs.Tile.{symbolic_tile as alu_ops}
+use Rattle.base_mem.specs.Tile.{has_access, symbolic_tile as access_ops}
 use Rattle.base_flow.specs.Prelude.{tile as flow_tile, illegal_items, LeavesEbx}
 
 -- a move costs what its op does, and nothing where it has none
@@ -30,14 +31,17 @@ item_cost (Mark mark) = 0
 item_cost (Edge target) = 0
 item_cost Leap = 8
 
--- the base tile of a word that is no flow word
-abbrev pub straight_tile : Instr → Map → List Op
-straight_tile i m = if has_access i then access_tile i m else alu_tile i m
+-- the base tile of a word that is no flow word, told without a map, and its price under one
+abbrev pub straight_ops : Instr → List SymbolicOp
+straight_ops i = if has_access i then access_ops i else alu_ops i
+
+abbrev pub symbolic_price : List SymbolicOp → Map → ℕ
+symbolic_price ops m = sum_by cost_of (ops_of ops m)
 
 -- What the base tile costs of a word that stands at an address, by what it is decoded as; None is an illegal word.
 abbrev pub base_price : Option Instr → ℕ → Map → ℕ
 base_price None at m = sum_by item_cost (flows_of illegal_items m)
-base_price (Some i) at m = if is_flow i then sum_by item_cost (flow_tile i at m) else sum_by cost_of (straight_tile i m)
+base_price (Some i) at m = if is_flow i then sum_by item_cost (flow_tile i at m) else symbolic_price (straight_ops i) m
 
 -- The word has a base tile under the map: it is legal or no instruction, and the tile of sc takes ebx.
 abbrev pub HasBaseTile : Option Instr → Map → Type 0

@@ -3,7 +3,8 @@ use Rattle.std.specs.Prelude.{◌≡◌, ℕ, ◌+◌, ◌-◌, ◌/◌, ◌<◌
 use Rattle.machines.specs.Prelude.{Map, IsMap, IsWordOf, Instr, Branch, BranchConditional}
 use Rattle.reg_map.specs.Place.{IsEmpty}
 use Rattle.block_find.specs.declared.block.Block.{Block}
-use Rattle.block_find.specs.Prelude.{IsFlowWord, IsBlockAt}
+use Rattle.block_find.specs.declared.block.Blocks.{Blocks}
+use Rattle.block_find.specs.Prelude.{AreBlocksOf, IsFlowWord, IsBlockAt, all_blocks, block_at}
 use Rattle.liveness.specs.Prelude.{Sets, AreLive}
 use Rattle.plan_form.specs.declared.problem.Problem.{Problem}
 use Rattle.offer_make.specs.Candidates.{AreCandidates}
@@ -16,6 +17,14 @@ pub record IsBlockOf (live : Sets) (block : Block) : Type 0 where
   pub place : ℕ
   pub is : IsBlockAt live.first words place block
   pub live_are : AreLive live.first words live
+
+-- all of the blocks are
+abbrev pub AreBlocksWith : Blocks → Sets → Type 0
+AreBlocksWith blocks live = (i : ℕ) → i < length (all_blocks blocks) → IsBlockOf live (block_at (all_blocks blocks) i)
+
+abbrev pub EachHasLiveSets : Type 0
+EachHasLiveSets = (first entry : ℕ) (words : List ℕ) (blocks : Blocks) (live : Sets)
+    → AreBlocksOf first entry words blocks → AreLive first words live → AreBlocksWith blocks live
 
 -- the word is a b or bc, which names where it leads
 abbrev pub has_target : Instr → Bool

@@ -60,7 +60,10 @@ offers_of last exit maps tiles = flat_map (λ place. flat_map (λ m. filter (may
 abbrev pub word_address : ℕ → ℕ → ℕ
 word_address at place = (at + 4 * place) % 2 ^ 32
 
+-- a base tile alone, at its price under a map
+abbrev pub base_tile : ℕ → (Map → ℕ) → Map → List Offer
+base_tile place price m = record { from = place; to = place + 1; map = m; tile = Base; price = price m } ∷ []
+
 -- the base tile of each word of a block, decoded, alone
 abbrev pub base_tiles : ℕ → List (Option Instr) → ℕ → Map → List Offer
-base_tiles at decoded place m =
-    record { from = place; to = place + 1; map = m; tile = Base; price = base_price (slice_index_or decoded place None) (word_address at place) m } ∷ []
+base_tiles at decoded place = base_tile place (base_price (slice_index_or decoded place None) (word_address at place))

@@ -11,5 +11,5 @@ mod prices;
 mod words;
 
 pub use block_problem::problem;
-pub use laws::{base_prices_are_low, prices_compute};
+pub use laws::{base_prices_are_low, blocks_have_live_sets, prices_compute};
 pub use maps::maps_over;

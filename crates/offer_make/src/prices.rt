@@ -1,17 +1,17 @@
 //! What base tiles cost.
 
-ghost use Rattle.std.specs.Prelude.{◌≡◌, ◌≤◌, false, length};
+ghost use Rattle.std.specs.Prelude.{◌≡◌, ◌≤◌, true, false, IfOk, IfSome, length};
 ghost use Rattle.std.specs.List.{sum_by};
-ghost use Rattle.std.specs.Prelude.{IfOk};
 ghost use Rattle.machines.specs.Prelude.{cost_of, IsLegal};
 ghost use Rattle.reg_map.specs.Prelude.{IsMap};
 ghost use Rattle.row_laws.specs.FlowWords.{is_flow as is_flow_word};
-ghost use Rattle.offer_make.specs.Prices.{item_cost as item_cost_of, straight_tile as straight_tile_of, base_price as base_price_of, HasBaseTile};
+ghost use Rattle.offer_make.specs.Prices.{item_cost as item_cost_of, straight_ops as straight_ops_of, symbolic_price, base_price as base_price_of, HasBaseTile};
 
-use base_flow::{FlowOp, is_flow};
+use base_flow::FlowOp;
 use ia_codec::{Op, cost};
 use ppc_isa::{Instr, Map};
 use std::alloc::Global;
+use symbolic_tiles::{SymbolicOp, op_of};
 use word_kit::NoMemory;
 
 // What an op costs.
@@ -22,14 +22,15 @@ fn op_cost(op: &Op) -> u32
     cost(op)
 }
 
-// The sum of what ops cost.
-fn ops_cost(ops: &[Op]) -> u32
-    requires { length ops.now ≤ 128 }
-    ensures { result ≡ sum_by cost_of ops.now }
+/// What ops that are told without a map cost together under a map.
+pub fn ops_cost(ops: &[SymbolicOp], map: &Map) -> u32
+    requires map { IsMap map.now }
+    requires few { length ops.now ≤ 128 }
+    ensures { result ≡ symbolic_price ops.now map.now }
 {
     let mut sum = 0;
     for op in ops {
-        sum += op_cost(op);
+        sum += op_cost(&op_of(map, *op));
     }
     sum
 }
@@ -59,35 +60,36 @@ fn items_cost(items: &[FlowOp]) -> u32
     sum
 }
 
-// The ops of a word that is no flow word.
-fn straight_ops(alloc: Global, instr: &Instr, map: &Map) -> Result<Vec<Op>, NoMemory>
-    requires map { IsMap map.now }
+/// The base tile of a word that is no flow word, told without a map.
+pub fn straight_ops(alloc: Global, instr: &Instr) -> Result<Vec<SymbolicOp>, NoMemory>
     requires straight { is_flow_word instr.now ≡ false }
     requires legal { IsLegal instr.now }
-    ensures ops { IfOk result (λ ops. ops.items ≡ straight_tile_of instr.now map.now) }
+    ensures ops { IfOk result (λ ops. ops.items ≡ straight_ops_of instr.now) }
     ensures few { IfOk result (λ ops. length ops.items ≤ 128) }
 {
-    if base_mem::is_built(instr) {
-        base_mem::emit(alloc, instr, map)
+    base_alu::tiles_are_short();
+    base_mem::tiles_are_short();
+    let ops = if base_mem::is_built(instr) {
+        base_mem::symbolic_tile(alloc, instr)?
     } else {
-        base_alu::emit(alloc, instr, map)
-    }
+        base_alu::symbolic_tile(alloc, instr)?
+    };
+    Ok(ops)
 }
 
-/// What the base tile costs of a word that stands at a guest address, under a map; None is an illegal word.
-pub fn base_price(alloc: Global, word: &Option<Instr>, at: u32, map: &Map) -> Result<u32, NoMemory>
+/// What the base tile of a flow word or of an illegal word costs, which stands at a guest address, under a map; None is an
+/// illegal word.
+pub fn flow_price(alloc: Global, word: &Option<Instr>, at: u32, map: &Map) -> Result<u32, NoMemory>
     requires map { IsMap map.now }
     requires tile { HasBaseTile word.now map.now }
+    requires flow { IfSome word.now (λ instr. is_flow_word instr ≡ true) }
     ensures price { IfOk result (λ price. price ≡ base_price_of word.now at map.now) }
 {
-    let Some(instr) = word else {
-        return Ok(cost(&Op::Ud2));
-    };
-    if is_flow(instr) {
-        let items = base_flow::emit(alloc, instr, at, map)?;
-        Ok(items_cost(items.as_slice()))
-    } else {
-        let ops = straight_ops(alloc, instr, map)?;
-        Ok(ops_cost(ops.as_slice()))
+    match word {
+        Some(instr) => {
+            let items = base_flow::emit(alloc, instr, at, map)?;
+            Ok(items_cost(items.as_slice()))
+        },
+        None => Ok(cost(&Op::Ud2)),
     }
 }

@@ -55,6 +55,29 @@ walk-on q moves u step price after v b leads leaves h = record {
   weighs = omega (arith, h.weighs);
 }
 
+-- a walk that begins with no move may begin with some
+walk-longer : (q : Problem) (moves : ℕ) (u : Node) (b : ℕ) → HasWalk q 0 u b → HasWalk q moves u b
+walk-longer q moves u b h = record { steps = h.steps; cost = h.cost; walk = go h.steps h.cost h.walk; weighs = h.weighs }
+  where
+    go : (steps : List Step) (cost : ℕ) → IsWalk q 0 u steps cost → IsWalk q moves u steps cost
+    go [] cost walk = walk
+    go (Lay tile ∷ steps) cost walk = walk
+    go (Go move ∷ steps) cost walk = let none = walk.5 in absurd (omega (arith, none))
+
+-- no weight of one row is above that of the other
+abbrev pub AreBelow : Problem → List ℕ → List ℕ → Type 0
+AreBelow q row base = (i : ℕ) → i < length q.maps.items → get_or row i 0 ≤ get_or base i 0
+
+pub set-below : (q : Problem) (row base : List ℕ) (from w : ℕ) → from < length row → w ≤ get_or row from 0 → AreBelow q row base → AreBelow q (set row from w) base
+set-below q row base from w within less h i inside = go (cases_eq i from)
+  where
+    go : (i ≡ from) ⊎ (i ≢ from) → get_or (set row from w) i 0 ≤ get_or base i 0
+    go (inr ne) = subst (λ v. v ≤ get_or base i 0) (sym (get_or-set_other row from i w 0 ne)) (h i inside)
+    go (inl e) =
+        let same = get_or-set_same row from w 0 within in
+        let here = h i inside in
+        subst (λ j. get_or (set row from w) j 0 ≤ get_or base i 0) (sym e) (let b = ap (λ j. get_or row j 0) e in omega (arith, same, here, less, b))
+
 -- the weight at the index i of a row after the first n edges
 pub record IsPart (q : Problem) (place moves limit : ℕ) (arcs : List Arc) (n i v : ℕ) : Type 0 where
   pub reached : v < NEVER → HasWalk q moves (node_at q place i) v
@@ -69,30 +92,39 @@ pub record IsPartRow (q : Problem) (place moves limit : ℕ) (arcs : List Arc) (
   pub parts : (i : ℕ) → i < length q.maps.items → IsPart q place moves limit arcs n i (get_or row i 0)
 
 module _ (q : Problem) (place moves limit : ℕ) (arcs : List Arc) where
-  part-more : (n i v : ℕ) (arc d : Arc) (b : ℕ) → n < length arcs → get_or arcs n d ≡ arc → IsBeyond q moves limit arc b
-      → (arc.from ≡ i → v ≤ 512 * arc.price + 1 + b) → IsPart q place moves limit arcs n i v → IsPart q place moves limit arcs (n + 1) i v
-  part-more n i v arc d b within is beyond low h = record {
+  -- an edge more, where no walk that begins with it weighs less
+  part-extended : (n i v : ℕ) (arc d : Arc) → n < length arcs → get_or arcs n d ≡ arc
+      → (arc.from ≡ i → (after : ℕ) (steps : List Step) (c : ℕ) → Leaves moves arc.step after → IsWalk q after (node_at q arc.place arc.to) steps c
+      → v ≤ 512 * arc.price + 1 + (512 * c + length steps))
+      → IsPart q place moves limit arcs n i v → IsPart q place moves limit arcs (n + 1) i v
+  part-extended n i v arc d within is low h = record {
     reached = h.reached;
     small = h.small;
     high = h.high;
     end = h.end;
-    bound = λ k e low here after steps c leaves walk. go k e here after steps c leaves walk (below-split k n low);
+    bound = λ k e less here after steps c leaves walk. go k e here after steps c leaves walk (below-split k n less);
   }
     where
       new : (a : Arc) → a ≡ arc → a.from ≡ i → (after : ℕ) (steps : List Step) (c : ℕ) → Leaves moves a.step after
           → IsWalk q after (node_at q a.place a.to) steps c → v ≤ 512 * a.price + 1 + (512 * c + length steps)
       new a e from after steps c leaves walk =
-          let l = beyond.least after (subst (λ x. Leaves moves x.step after) e leaves) in
-          let w = l.bound steps c (subst (λ x. IsWalk q after (node_at q x.place x.to) steps c) e walk) in
+          let w = low (ap (λ x. x.from) (sym e) ∙ from) after steps c (subst (λ x. Leaves moves x.step after) e leaves)
+          (subst (λ x. IsWalk q after (node_at q x.place x.to) steps c) e walk) in
           let p = ap (λ x. x.price) e in
-          omega (arith, low (ap (λ x. x.from) (sym e) ∙ from), w, p)
+          omega (arith, w, p)
 
       go : (k : ℕ) (e : Arc) → (get_or arcs k e).from ≡ i → (after : ℕ) (steps : List Step) (c : ℕ) → Leaves moves (get_or arcs k e).step after
           → IsWalk q after (node_at q (get_or arcs k e).place (get_or arcs k e).to) steps c → (k < n) ⊎ (k ≡ n)
           → v ≤ 512 * (get_or arcs k e).price + 1 + (512 * c + length steps)
-      go k e here after steps c leaves walk (inl low) = h.bound k e low here after steps c leaves walk
+      go k e here after steps c leaves walk (inl less) = h.bound k e less here after steps c leaves walk
       go k e here after steps c leaves walk (inr same) =
           new (get_or arcs k e) (ap (λ j. get_or arcs j e) same ∙ get_or_default arcs n e d within ∙ is) here after steps c leaves walk
+
+  part-more : (n i v : ℕ) (arc d : Arc) (b : ℕ) → n < length arcs → get_or arcs n d ≡ arc → IsBeyond q moves limit arc b
+      → (arc.from ≡ i → v ≤ 512 * arc.price + 1 + b) → IsPart q place moves limit arcs n i v → IsPart q place moves limit arcs (n + 1) i v
+  part-more n i v arc d b within is beyond low h =
+      part-extended n i v arc d within is
+      (λ from after steps c leaves walk. let l = low from in let w = (beyond.least after leaves).bound steps c walk in omega (arith, l, w)) h
 
   part-lower : (n i v w : ℕ) → w < v → (node_at q place i ≡ exit_node q → w ≡ 0) → HasWalk q moves (node_at q place i) w → w ≤ limit
       → IsPart q place moves limit arcs n i v → IsPart q place moves limit arcs n i w
@@ -140,12 +172,39 @@ module _ (q : Problem) (place moves limit : ℕ) (arcs : List Arc) where
           (subst (λ v. IsPart q place moves limit arcs (n + 1) arc.from v) (sym (get_or-set_same row arc.from (512 * arc.price + 1 + b) 0 inside_row))
           (part-more n arc.from (512 * arc.price + 1 + b) arc d b within is beyond (λ _. omega arith) lower))
 
+  -- a tile's edge, where the row begins with the least weights of walks without a move before the first tile
+  pub row-passed : (n : ℕ) (row base : List ℕ) (low : ℕ) (arc d : Arc) (tile : Tile) → n < length arcs → get_or arcs n d ≡ arc → IsArc q place arc → arc.step ≡ Lay tile
+      → IsRow q place 0 low base → AreBelow q row base → IsPartRow q place moves limit arcs n row → IsPartRow q place moves limit arcs (n + 1) row
+  row-passed n row base low arc d tile within is good e all below h = record {
+    len = h.len;
+    parts = λ i inside. part-extended n i (get_or row i 0) arc d within is (λ from after steps c leaves walk.
+        let w = (all.least arc.from good.from).bound (arc.step ∷ steps) (arc.price + c)
+        (arc.price, after, node_at q arc.place arc.to, c, good.leads, subst (λ s. Leaves 0 s after) (sym e) (subst (λ s. Leaves moves s after) e leaves), walk, refl) in
+        let v = subst (λ j. get_or row j 0 ≤ get_or base j 0) from (below arc.from good.from) in
+        let b = ap (λ j. get_or base j 0) from in
+        omega (arith, w, v, b)) (h.parts i inside);
+  }
+
+  -- the row that walks without a move before the first tile have is a beginning
+  pub row-begun : (base : List ℕ) (low : ℕ) → low ≤ limit → IsRow q place 0 low base → IsPartRow q place moves limit arcs 0 base
+  row-begun base low less h = record {
+    len = h.len;
+    parts = λ i inside. record {
+      reached = λ some. walk-longer q moves (node_at q place i) (get_or base i 0) ((h.least i inside).reached some);
+      small = λ some. let s = h.small i inside some in omega (arith, s, less);
+      high = h.high i inside;
+      end = λ e. let l = (h.least i inside).bound [] 0 (e, refl) in omega (arith, l);
+      bound = λ k d none from after steps c leaves walk. absurd (omega (arith, none));
+    };
+  }
+
   pub row-whole : (candidates : List ℕ) (price : ℕ → ℕ → ℕ) → IsFullOver q candidates price → AreArcs q place arcs → (n : ℕ) (row : List ℕ) → length arcs ≤ n
       → IsPartRow q place moves limit arcs n row → IsRow q place moves limit row
   row-whole candidates price full all n row end h = record {
     len = h.len;
     least = λ i inside. record { bound = go i inside; reached = (h.parts i inside).reached };
     small = λ i inside. (h.parts i inside).small;
+    high = λ i inside. (h.parts i inside).high;
   }
     where
       go : (i : ℕ) → i < length q.maps.items → (steps : List Step) (cost : ℕ) → IsWalk q moves (node_at q place i) steps cost → get_or row i 0 ≤ 512 * cost + length steps
@@ -160,8 +219,24 @@ module _ (q : Problem) (place moves limit : ℕ) (arcs : List Arc) where
           let p = ap (λ x. x.price) is ∙ a.price_is in
           omega (arith, low, p, walk.7)
 
+-- what is behind a move, by the row with one move less
+pub row-beyond : (q : Problem) (place left low limit : ℕ) (arc : Arc) (go : Move) (fewer : List ℕ) → arc.step ≡ Go go → IsArc q place arc → 0 < left → low + 524288 ≤ limit
+    → IsRow q place (left - 1) low fewer → IsBeyond q left limit arc (get_or fewer arc.to 0)
+row-beyond q place left low limit arc go fewer e is some less row =
+    let h = subst (λ s. Leads q (node_at q place arc.from) s arc.price (node_at q arc.place arc.to)) e is.leads in
+    let f : arc.place ≡ place = ap (λ w. w.place) h.1 in
+    record {
+      least = λ after leaves.
+          let k : left ≡ suc after = subst (λ s. Leaves left s after) e leaves in
+          let n : left - 1 ≡ after = omega (arith, k) in
+          subst (λ m. IsLeast q m (node_at q arc.place arc.to) (get_or fewer arc.to 0)) n
+          (subst (λ p. IsLeast q (left - 1) (node_at q p arc.to) (get_or fewer arc.to 0)) (sym f) (row.least arc.to is.to));
+      onward = λ _. (left - 1, subst (λ s. Leaves left s (left - 1)) (sym e) (let n : left ≡ suc (left - 1) = omega (arith, some) in n));
+      small = λ known. let k = row.small arc.to is.to known in omega (arith, k, less);
+    }
+
 module _ (q : Problem) (candidates : List ℕ) (price : ℕ → ℕ → ℕ) (full : IsFullOver q candidates price) (rows : List (List ℕ)) (table : IsTable q rows) where
-  row-as : (r place moves : ℕ) → r < length rows → last q - r / 7 ≡ place → r % 7 ≡ moves → IsRow q place moves (524288 * r) (get_or rows r [])
+  pub row-as : (r place moves : ℕ) → r < length rows → last q - r / 7 ≡ place → r % 7 ≡ moves → IsRow q place moves (524288 * r) (get_or rows r [])
   row-as r place moves within e f =
       subst (λ p. IsRow q p moves (524288 * r) (get_or rows r [])) e (subst (λ m. IsRow q (last q - r / 7) m (524288 * r) (get_or rows r [])) f (table.rows r within))
 
@@ -206,16 +281,7 @@ module _ (q : Problem) (candidates : List ℕ) (price : ℕ → ℕ → ℕ) (fu
       → IsBeyond q left (524288 * (7 * (last q - place) + left)) arc (get_or (get_or rows (7 * (q.places - 1 - place) + left - 1) []) arc.to 0)
   go-beyond place left arc go e is few some low enough =
       let row = go-row place left few some low enough in
-      let f : arc.place ≡ place = move-facts _ _ _ _ go e is.leads in
-      let b = get_or (get_or rows (7 * (q.places - 1 - place) + left - 1) []) arc.to 0 in
-      record {
-        least = λ after leaves.
-            let k : left ≡ suc after = subst (λ s. Leaves left s after) e leaves in
-            let n : left - 1 ≡ after = omega (arith, k) in
-            subst (λ m. IsLeast q m (node_at q arc.place arc.to) b) n (subst (λ p. IsLeast q (left - 1) (node_at q p arc.to) b) (sym f) (row.1.least arc.to is.to));
-        onward = λ _. (left - 1, subst (λ s. Leaves left s (left - 1)) (sym e) (let n : left ≡ suc (left - 1) = omega arith in n));
-        small = λ known. let k = row.1.small arc.to is.to known in omega (arith, k);
-      }
+      row-beyond q place left (524288 * (7 * (q.places - 1 - place) + left - 1)) (524288 * (7 * (last q - place) + left)) arc go _ e is some (omega (arith, some)) row.1
 
   pub never-beyond : (limit : ℕ) (arc : Arc) (go : Move) → arc.step ≡ Go go → IsBeyond q 0 limit arc NEVER
   never-beyond limit arc go e = record {

@@ -2,7 +2,7 @@
 use Rattle.std.specs.Prelude.{◌≡◌, ◌⊎◌, ℕ, ◌+◌, ◌-◌, ◌*◌, ◌/◌, ◌%◌, ◌<◌, ◌≤◌, List, [], length, slice_index_or}
 use Rattle.plan_form.specs.declared.problem.Problem.{Problem}
 use Rattle.plan_form.specs.declared.problem.Step.{Step}
-use Rattle.plan_form.specs.Prelude.{Node, Leaves, IsWalk, last, exit_node}
+use Rattle.plan_form.specs.Prelude.{Node, IsFull, Leaves, IsWalk, last, exit_node}
 use Rattle.tile_plan.specs.declared.table.TheConstants.{NEVER}
 use Rattle.tile_plan.specs.declared.arcs.Arc.{Arc}
 use Rattle.tile_plan.specs.Arcs.{node_at}
@@ -19,11 +19,16 @@ pub record IsLeast (q : Problem) (moves : ℕ) (u : Node) (weight : ℕ) : Type 
   pub bound : (steps : List Step) (cost : ℕ) → IsWalk q moves u steps cost → weight ≤ 512 * cost + length steps
   pub reached : weight < NEVER → HasWalk q moves u weight
 
+-- no least weight at a place, with so many moves left, is above this
+abbrev pub weight_limit : Problem → ℕ → ℕ → ℕ
+weight_limit q place left = 524288 * (7 * (last q - place) + left)
+
 -- the least weights at a place for each map, none above the limit but NEVER
 pub record IsRow (q : Problem) (place moves limit : ℕ) (row : List ℕ) : Type 0 where
   pub len : length row ≡ length q.maps.items
   pub least : (i : ℕ) → i < length q.maps.items → IsLeast q moves (node_at q place i) (slice_index_or row i 0)
   pub small : (i : ℕ) → i < length q.maps.items → slice_index_or row i 0 < NEVER → slice_index_or row i 0 ≤ limit
+  pub high : (i : ℕ) → i < length q.maps.items → slice_index_or row i 0 ≤ NEVER
 
 -- the weight of a place and a map without a step: 0 at the last node, else NEVER
 pub record IsEndWeight (q : Problem) (u : Node) (weight : ℕ) : Type 0 where
@@ -44,3 +49,12 @@ pub record IsBeyond (q : Problem) (moves limit : ℕ) (arc : Arc) (b : ℕ) : Ty
 pub record IsTable (q : Problem) (table : List (List ℕ)) : Type 0 where
   pub few : length table ≤ 7 * q.places
   pub rows : (r : ℕ) → r < length table → IsRow q (last q - r / 7) (r % 7) (524288 * r) (slice_index_or table r [])
+
+-- The table has the rows of a full problem that are needed at a place with so many moves left: those of the places behind it,
+-- and its own with fewer moves left.
+pub record IsFilled (q : Problem) (table : List (List ℕ)) (place left : ℕ) : Type 0 where
+  pub full : IsFull q
+  pub within : place ≤ last q
+  pub few : left ≤ 6
+  pub are : IsTable q table
+  pub enough : 7 * (last q - place) + left ≤ length table

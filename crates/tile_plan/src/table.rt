@@ -1,9 +1,9 @@
 //! The least weights to the last node, by place, moves left and map.
 
 ghost use Rattle.std.specs.Prelude.{◌≡◌, ◌+◌, ◌-◌, ◌*◌, ◌≤◌, ◌<◌, IfOk, length, map, [], slice_index_or};
-ghost use Rattle.plan_form.specs.Prelude.{IsFull, last};
+ghost use Rattle.plan_form.specs.Prelude.{IsFull};
 ghost use Rattle.tile_plan.specs.Arcs.{IsArc, AreArcs, AreAllArcs};
-ghost use Rattle.tile_plan.specs.Least.{IsRow, IsTable, IsBeyond, IsEndWeight, AreEndWeights};
+ghost use Rattle.tile_plan.specs.Least.{IsRow, IsTable, IsFilled, IsBeyond, IsEndWeight, AreEndWeights, weight_limit};
 
 use crate::arcs::Arc;
 use plan_form::{Problem, Step, same_map};
@@ -25,13 +25,9 @@ pub fn weight_at(table: &Vec<Vec<u32>>, row: usize, index: usize) -> u32
 
 /// The least weight behind an edge.
 pub fn beyond(problem: &Problem, table: &Vec<Vec<u32>>, place: u32, left: usize, arc: &Arc) -> u32
-    requires full { IsFull problem.now }
-    requires place { place ≤ last problem.now }
-    requires left { left ≤ 6 }
+    requires table { IsFilled problem.now (map (λ row. row.items) table.now.items) place left }
     requires arc { IsArc problem.now place arc.now }
-    requires table { IsTable problem.now (map (λ row. row.items) table.now.items) }
-    requires rows { 7 * (last problem.now - place) + left ≤ length table.now.items }
-    ensures { IsBeyond problem.now left (524288 * (7 * (last problem.now - place) + left)) arc.now result }
+    ensures { IsBeyond problem.now left (weight_limit problem.now place left) arc.now result }
 {
     match arc.step {
         Step::Lay(_) => {
@@ -80,26 +76,21 @@ fn end_weights(alloc: Global, problem: &Problem, place: u32) -> Result<Vec<u32>,
     Ok(row)
 }
 
-// The least weights of a place, with so many moves left.
-fn weights_at(
+// The least weights of a place, with no move left.
+fn tile_weights(
     alloc: Global,
     problem: &Problem,
     arcs: &[Arc],
     table: &Vec<Vec<u32>>,
     place: u32,
-    left: usize,
 ) -> Result<Vec<u32>, NoMemory>
-    requires full { IsFull problem.now }
-    requires place { place ≤ last problem.now }
-    requires left { left ≤ 6 }
+    requires table { IsFilled problem.now (map (λ row. row.items) table.now.items) place 0 }
     requires arcs { AreArcs problem.now place arcs.now }
-    requires table { IsTable problem.now (map (λ row. row.items) table.now.items) }
-    requires rows { length table.now.items ≡ 7 * (last problem.now - place) + left }
-    ensures { IfOk result (λ row. IsRow problem.now place left (524288 * (7 * (last problem.now - place) + left)) row.items) }
+    ensures { IfOk result (λ row. IsRow problem.now place 0 (weight_limit problem.now place 0) row.items) }
 {
     let mut row = end_weights(alloc, problem, place)?;
     for arc in arcs {
-        let behind = beyond(problem, table, place, left, arc);
+        let behind = beyond(problem, table, place, 0, arc);
         if behind < NEVER {
             let weight = 512 * arc.price + 1 + behind;
             if weight < row[arc.from] {
@@ -108,6 +99,62 @@ fn weights_at(
         }
     }
     Ok(row)
+}
+
+// The least weights of a place, with so many moves left, by those with none left and with one less.
+fn move_weights(
+    alloc: Global,
+    problem: &Problem,
+    arcs: &[Arc],
+    base: &[u32],
+    fewer: &[u32],
+    place: u32,
+    left: usize,
+) -> Result<Vec<u32>, NoMemory>
+    requires full { IsFull problem.now }
+    requires arcs { AreArcs problem.now place arcs.now }
+    requires left { 0 < left }
+    requires few { left ≤ 6 }
+    requires base { IsRow problem.now place 0 (weight_limit problem.now place 0) base.now }
+    requires fewer { IsRow problem.now place (left - 1) (weight_limit problem.now place (left - 1)) fewer.now }
+    ensures { IfOk result (λ row. IsRow problem.now place left (weight_limit problem.now place left) row.items) }
+{
+    let mut row = Vec::from_slice(alloc, base)?;
+    for arc in arcs {
+        if let Step::Go(_) = arc.step {
+            let behind = fewer[arc.to];
+            if behind < NEVER {
+                let weight = 512 * arc.price + 1 + behind;
+                if weight < row[arc.from] {
+                    row[arc.from] = weight;
+                }
+            }
+        }
+    }
+    Ok(row)
+}
+
+// The least weights of a place, with so many moves left. Tiles are looked at with no move left alone: behind a tile it doesn't
+// matter how many were.
+fn weights_at(
+    alloc: Global,
+    problem: &Problem,
+    arcs: &[Arc],
+    table: &Vec<Vec<u32>>,
+    place: u32,
+    left: usize,
+) -> Result<Vec<u32>, NoMemory>
+    requires table { IsFilled problem.now (map (λ row. row.items) table.now.items) place left }
+    requires arcs { AreArcs problem.now place arcs.now }
+    ensures { IfOk result (λ row. IsRow problem.now place left (weight_limit problem.now place left) row.items) }
+{
+    if left == 0 {
+        return tile_weights(alloc, problem, arcs, table, place);
+    }
+    let first = 7 * (problem.places - 1 - place) as usize;
+    let base = table[first].as_slice();
+    let fewer = table[first + left - 1].as_slice();
+    move_weights(alloc, problem, arcs, base, fewer, place, left)
 }
 
 /// The least weights of all places. Each has seven rows: the one at 7 * d + k is that of the place at d before the last,

@@ -5,7 +5,7 @@ ghost use Rattle.plan_form.specs.declared.problem.Step.{Step};
 ghost use Rattle.plan_form.specs.Prelude.{IsFull, IsAt, last, Leaves, IsValidPlan, entry_node};
 ghost use Rattle.tile_plan.specs.declared.arcs.Arc.{Arc};
 ghost use Rattle.tile_plan.specs.Arcs.{IsArc, AreArcs, AreAllArcs};
-ghost use Rattle.tile_plan.specs.Least.{IsTable};
+ghost use Rattle.tile_plan.specs.Least.{IsFilled, IsTable};
 ghost use Rattle.tile_plan.specs.Choice.{IsTight, IsChoice, IsFirstPlan};
 
 use crate::arcs::Arc;
@@ -24,12 +24,8 @@ fn is_tight(
     weight: u32,
     arc: &Arc,
 ) -> bool
-    requires full { IsFull problem.now }
-    requires place { place ≤ last problem.now }
-    requires left { left ≤ 6 }
+    requires table { IsFilled problem.now (map (λ row. row.items) table.now.items) place left }
     requires arc { IsArc problem.now place arc.now }
-    requires table { IsTable problem.now (map (λ row. row.items) table.now.items) }
-    requires rows { 7 * (last problem.now - place) + left ≤ length table.now.items }
     ensures { IsTrue result ↔ IsTight problem.now left index weight arc.now }
 {
     if arc.from != index {
@@ -52,12 +48,8 @@ fn first_edge(
     index: usize,
     weight: u32,
 ) -> Arc
-    requires full { IsFull problem.now }
-    requires place { place ≤ last problem.now }
-    requires left { left ≤ 6 }
+    requires table { IsFilled problem.now (map (λ row. row.items) table.now.items) place left }
     requires arcs { AreArcs problem.now place arcs.now }
-    requires table { IsTable problem.now (map (λ row. row.items) table.now.items) }
-    requires rows { 7 * (last problem.now - place) + left ≤ length table.now.items }
     requires some { (arc : Arc) × Contains arcs.now arc × IsTight problem.now left index weight arc }
     ensures { IsChoice problem.now place left index weight arcs.now result }
 {

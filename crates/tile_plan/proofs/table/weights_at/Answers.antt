@@ -1,45 +1,36 @@
-use Rattle.std.proofs.Common.{◌<◌, ◌+◌, ◌-◌, ◌*◌, length, get_or, refl, sym, subst, arith}
-use Rattle.plan_form.proofs.Costs.{price-small}
-use Rattle.tile_plan.proofs.Leasts.{IsPartRow, read-zero, row-kept, row-lowered, row-whole}
-use Rattle.plan_form.specs.declared.problem.Step.TheVariants.{Go}
-use Rattle.reg_map.specs.declared.moves.Move.TheVariants.{Drop}
-use Rattle.tile_plan.specs.Prelude.{Arc, IsArc, node_at}
+use Rattle.std.proofs.Common.{◌≡◌, ◌<◌, ◌+◌, ◌-◌, ◌*◌, ◌/◌, [], length, get_or, map, sym, subst, ap, ◌∙◌, arith}
+use Rattle.std.proofs.lemmas.List.{get_or-map, length-map}
+use Rattle.tile_plan.specs.Prelude.{IsRow, weight_limit}
+use Rattle.tile_plan.proofs.Leasts.{row-as, go-row}
 use Rattle.tile_plan.proofs.table.weights_at.Goals as goal
-use Rattle.tile_plan.proofs.table.weights_at.Goals.{then-behind-lt-NEVER+then-weight-index, then-behind-lt-NEVER+else-weight-index, else-behind-lt-NEVER}
 
-pub loop-arc-preserved : goal.loop-arc-preserved
-loop-arc-preserved c =
+pub move_weights-requires-clause-base : goal.move_weights-requires-clause-base
+move_weights-requires-clause-base c =
     let q = c.args.problem.now in
-    let limit = 524288 * (7 * (q.places - 1 - c.args.place) + c.args.left) in
-    let full = c.requires.full in
-    let arcs = c.args.arcs.now in
-    let n = c.loop-arc.arc-index in
-    let old = c.loop-arc.row.items in
-    let h = c.loop-arc.invariant in
-    let b = c.beyond-behind.result in
-    let none : Arc = record { from = 0; step = Go (Drop 0); price = 0; place = 0; to = 0 } in
-    let arc : Arc = get_or arcs n none in
-    let good : IsArc q c.args.place arc = c.requires.arcs.sound n none c.loop-arc-test.true in
-    let inside : arc.from < length old = omega (arith, good.from, h.len) in
-    elim c.if-behind-lt-NEVER.branch [
-      | then-behind-lt-NEVER+then-weight-index w ↦
-          let low = read-zero old arc.from w.index.result.now w.index.ensures inside in
-          let cheap = price-small q full.0 full.1 full.2 (node_at q c.args.place arc.from) arc.step arc.price (node_at q arc.place arc.to) good.leads in
-          subst (λ v. IsPartRow q c.args.place c.args.left limit arcs (n + 1) v.items) (sym w.row-is)
-          (row-lowered q c.args.place c.args.left limit arcs n old arc none b c.loop-arc-test.true refl good c.beyond-behind.ensures w.if-behind-lt-NEVER.true cheap (omega (arith, low, w.if-weight-index.true)) h)
-      | then-behind-lt-NEVER+else-weight-index w ↦
-          let low = read-zero old arc.from w.index.result.now w.index.ensures inside in
-          subst (λ v. IsPartRow q c.args.place c.args.left limit arcs (n + 1) v.items) (sym w.row-is)
-          (row-kept q c.args.place c.args.left limit arcs n old arc none b c.loop-arc-test.true refl c.beyond-behind.ensures (omega (arith, low, w.if-weight-index.false)) h)
-      | else-behind-lt-NEVER w ↦
-          let high = (h.parts arc.from good.from).high in
-          subst (λ v. IsPartRow q c.args.place c.args.left limit arcs (n + 1) v.items) (sym w.row-is)
-          (row-kept q c.args.place c.args.left limit arcs n old arc none b c.loop-arc-test.true refl c.beyond-behind.ensures (omega (arith, high, w.if-behind-lt-NEVER.false)) h)
-    ]
+    let t = c.requires.table in
+    let table = c.args.table.now.items in
+    let rows = map (λ row. row.items) table in
+    let d = q.places - 1 - c.args.place in
+    let len = length-map table (λ row. row.items) in
+    let within : 7 * d < length rows = omega (arith, t.enough, c.if-left-eq0.false) in
+    let by : (7 * d) / 7 ≡ d = omega arith in
+    let row = row-as q t.full.0 t.full.1 t.full.2 rows t.are (7 * d) c.args.place 0 within (omega (arith, by, t.within)) (omega arith) in
+    let e = get_or-map (λ row. row.items) table (7 * d) c.index.result.now [] (omega (arith, len, within)) in
+    let is = e ∙ sym (ap (λ row. row.items) c.index.ensures) ∙ sym c.as_slice-base.ensures.value in
+    let same : 524288 * (7 * d) ≡ weight_limit q c.args.place 0 = omega arith in
+    subst (λ xs. IsRow q c.args.place 0 (weight_limit q c.args.place 0) xs) is (subst (λ n. IsRow q c.args.place 0 n (get_or rows (7 * d) [])) same row)
 
-pub returns : goal.returns
-returns c =
+pub move_weights-requires-clause-fewer : goal.move_weights-requires-clause-fewer
+move_weights-requires-clause-fewer c =
     let q = c.args.problem.now in
-    let limit = 524288 * (7 * (q.places - 1 - c.args.place) + c.args.left) in
-    let full = c.requires.full in
-    row-whole q c.args.place c.args.left limit c.args.arcs.now full.0 full.1 full.2 c.requires.arcs c.loop-arc.arc-index c.loop-arc.row.items c.loop-arc-test.false c.loop-arc.invariant
+    let t = c.requires.table in
+    let table = c.args.table.now.items in
+    let rows = map (λ row. row.items) table in
+    let left = c.args.left in
+    let r = 7 * (q.places - 1 - c.args.place) + left - 1 in
+    let len = length-map table (λ row. row.items) in
+    let row = go-row q t.full.0 t.full.1 t.full.2 rows t.are c.args.place left t.few (omega (arith, c.if-left-eq0.false)) t.within t.enough in
+    let e = get_or-map (λ row. row.items) table r c.index-2.result.now [] (omega (arith, len, row.0)) in
+    let is = e ∙ sym (ap (λ row. row.items) c.index-2.ensures) ∙ sym c.as_slice-fewer.ensures.value in
+    let same : 524288 * r ≡ weight_limit q c.args.place (left - 1) = omega (arith, c.if-left-eq0.false) in
+    subst (λ xs. IsRow q c.args.place (left - 1) (weight_limit q c.args.place (left - 1)) xs) is (subst (λ n. IsRow q c.args.place (left - 1) n (get_or rows r [])) same row.1)

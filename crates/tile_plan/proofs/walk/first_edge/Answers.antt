@@ -44,7 +44,7 @@ loop-arc-preserved c =
 pub unreachable-requires : goal.unreachable-requires
 unreachable-requires c =
     let q = c.args.problem.now in
-    let full = c.requires.full in
+    let full = c.requires.table.full in
     let some = c.requires.some in
     let arc : Arc = some.0 in
     let k : ℕ = some.1.0 in

@@ -16,6 +16,18 @@ loop-weight-init c =
     walked-as q [] c.new-steps.result.items 0 c.args.entry 6 6 _ c.weight_at-weight.result c.new-steps.ensures.items refl c.weight_at-weight.ensures
     (walk-begins q full.0 full.1 full.2 _ c.requires.table len c.args.entry c.requires.entry plan.0 plan.1 plan.2)
 
+pub first_edge-arc-requires-clause-table : goal.first_edge-arc-requires-clause-table
+first_edge-arc-requires-clause-table c =
+    let h = c.loop-weight.invariant in
+    let len : length (map (λ row. row.items) c.args.table.now.items) ≡ 7 * c.args.problem.now.places = rw length-map c.requires.len in
+    record {
+      full = c.requires.full;
+      within = h.place_in;
+      few = h.few;
+      are = c.requires.table;
+      enough = omega (arith, len, h.place_in, h.few, c.requires.full.2.low);
+    }
+
 pub first_edge-arc-requires-clause-arcs : goal.first_edge-arc-requires-clause-arcs
 first_edge-arc-requires-clause-arcs c =
     let q = c.args.problem.now in
