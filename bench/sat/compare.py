@@ -3,7 +3,7 @@
 
     compare.py [SAT_BENCH]
 
-Each time is the least of three runs' user seconds, reading the file included. minisat and cadical are Debian's packages.
+Each time is the least of nine runs' user seconds, reading the file included. minisat and cadical are Debian's packages.
 The second table gives `check` the logs that cadical wrote within so many conflicts, without deletions and preprocessing, beside
 what cadical's own checker adds to the time of such a run (--check=true). That checker forgets clauses where cadical does, and `check`
 never does; in the last log of each formula cadical doesn't tidy its clauses up (--reduce=false)."""
@@ -22,9 +22,9 @@ LIMIT = "20000"
 
 
 def run(*words):
-    """The least user time of three runs, and what the last one wrote."""
+    """The least user time of nine runs, and what the last one wrote."""
     times = []
-    for _ in range(3):
+    for _ in range(9):
         before = resource.getrusage(resource.RUSAGE_CHILDREN).ru_utime
         out = subprocess.run(words, stdout=subprocess.PIPE, stderr=subprocess.STDOUT).stdout.decode()
         times.append(resource.getrusage(resource.RUSAGE_CHILDREN).ru_utime - before)

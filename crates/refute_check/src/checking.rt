@@ -26,7 +26,7 @@ fn first_bad(
         if !propagator.follows(steps[place].as_slice())? {
             return Ok(Some(place));
         }
-        propagator.add(steps[place].as_slice())?;
+        propagator.add(&steps[place])?;
     }
     Ok(None)
 }

@@ -8,7 +8,7 @@ use Rattle.watched_literals.proofs.Trails.{neg-literal, Contains-nil}
 use Rattle.watched_literals.specs.Prelude.{code, IsWithin, IsReady, IsAbove}
 use Rattle.word_kit.specs.Prelude.{IsFormula, AreClauses}
 use Rattle.sat_core.specs.Prelude.{IsClosedUnder, IsGained, IsLiteralOf, IsVariable, Leads, IsLesson, known, room_for, IsSearching, IsRooted, IsConflict, Keeps, Reaches, Restarts, IsTaught, Search}
-use Rattle.sat_core.proofs.Turns.{rooted-above, rooted-complete, rooted-closed, root-front}
+use Rattle.sat_core.proofs.Turns.{rooted-above, rooted-complete, rooted-closed}
 use Rattle.sat_core.proofs.Chosen.{leads-start, leads-on, leads-weaker, leads-stopped, literal-split, literals-all, variable-split, variables-all}
 
 abbrev room : Search → ℕ
@@ -118,49 +118,7 @@ reaches-variables a b n last low h = reaches-weaker (IsVariable n) (IsVariable l
 
 -- ---- back at the root
 
-pub restarted-searching : (root : ℕ) (a b : Search) (literals : List ℤ) → root ≡ length literals → IsAbove (known a) literals a.propagator
-    → a.propagator.trail.room ≡ room_for a.formula.now.variables → Restarts root a b → IsSearching b
-restarted-searching root a b literals at h n r = record {
-  above = (literals, above);
-  complete = rooted-complete (known b) literals b.propagator trail above;
-  closed = rooted-closed (known b) literals b.assumed.items b.propagator trail r.bare above;
-  within = subst (All (IsWithin (room b))) (sym r.bare) (λ k d inside. absurd (omega (arith, inside)));
-  room = r.room ∙ n ∙ ap (λ g. room_for g.variables) (sym r.formula);
-}
-  where
-    above : IsAbove (known b) literals b.propagator
-    above = subst (λ cs. IsAbove cs literals b.propagator) (sym (known-kept a b r.formula r.steps)) (r.above literals at h)
-
-    trail : b.propagator.trail.literals ≡ literals
-    trail = r.trail ∙ root-front (known a) literals a.propagator root at h
-
--- a search that is back at the root after a conflict
-pub record IsBack (a d : Search) : Type 0 where
-  pub formula : d.formula.now ≡ a.formula.now
-  pub steps : d.steps.items ≡ a.steps.items
-  pub room : d.propagator.trail.room ≡ a.propagator.trail.room
-  pub bare : d.assumed.items ≡ []
-  pub ready : IsReady (known a) d.propagator
-
-pub is-back : (root : ℕ) (wanted : ℤ → Type 0) (a b c d : Search) (last : Option ℤ) (literals : List ℤ) → root ≡ length literals
-    → IsAbove (known a) literals a.propagator → Restarts root a b → Reaches wanted b c last → Restarts root c d → IsBack a d
-is-back root wanted a b c d last literals at h r k q = record {
-  formula = q.formula ∙ k.keeps.formula ∙ r.formula;
-  steps = q.steps ∙ k.keeps.steps ∙ r.steps;
-  room = q.room ∙ k.keeps.room ∙ r.room;
-  bare = q.bare;
-  ready = subst (λ cs. IsReady cs d.propagator) both (q.ready literals at
-      (subst (λ cs. IsAbove cs literals c.propagator) (sym kept) (k.keeps.above literals
-      (subst (λ cs. IsAbove cs literals b.propagator) (sym (known-kept a b r.formula r.steps)) (r.above literals at h)))));
-}
-  where
-    kept : known c ≡ known b
-    kept = known-kept b c k.keeps.formula k.keeps.steps
-
-    both : known c ≡ known a
-    both = kept ∙ known-kept a b r.formula r.steps
-
-pub taught-back : (root : ℕ) (last : ℤ) (a d e : Search) (clause : List ℤ) → IsConflict root last a → IsBack a d
+pub taught-back : (root : ℕ) (last : ℤ) (a d e : Search) (clause : List ℤ) → IsConflict root last a → Restarts root a d
     → e.formula.now ≡ d.formula.now → e.steps.items ≡ d.steps.items → e.assumed.items ≡ d.assumed.items → e.propagator.trail.room ≡ d.propagator.trail.room
     → IsReady (known a) e.propagator → IsLesson (known a) clause → All (IsWithin d.propagator.trail.room) clause → IsTaught a e clause
 taught-back root last a d e clause k b f s bare room_is ready lesson within = record {

@@ -1,8 +1,7 @@
 -- A search, and the way back from it.
-use Rattle.std.proofs.Common.{◌≡◌, ℕ, ◌≤◌, true, false, List, [], ◌∷◌, ◌++◌, ℤ, length, take, sym, subst, ap, ◌∙◌, ◌≢◌, arith, length-append, append-nil}
+use Rattle.std.proofs.Common.{◌≡◌, ℕ, ◌≤◌, true, false, List, [], ◌∷◌, ◌++◌, ℤ, length, sym, subst, ap, ◌∙◌, ◌≢◌, arith, length-append, append-nil}
 use Rattle.std.specs.List.{All}
 use Rattle.std.proofs.lemmas.List.Elements.{All-push}
-use Rattle.std.proofs.Math.Seq.{take-append_seam}
 use Rattle.word_kit.specs.Prelude.{IsLiteral, AreClauses}
 use Rattle.watched_literals.specs.Prelude.{IsWithin, IsReady, IsAbove, IsComplete, AllWatched}
 use Rattle.watched_literals.proofs.Trails.{Contains-nil}
@@ -29,12 +28,6 @@ rooted-closed known root assumed s e f h =
       settled = known-settled s known root root h.base.stored h.base.watched h.base.held (λ x m. m);
       denied = λ x m. Contains-nil x m;
     }))
-
--- the root is the beginning of the trail
-pub root-front : (known : List (List ℤ)) (root : List ℤ) (s : Propagator) (count : ℕ) → count ≡ length root → IsAbove known root s
-    → take count s.trail.literals ≡ root
-root-front known root s count at h =
-    ap (take count) h.above.1 ∙ ap (λ n. take n (root ++ h.above.0)) at ∙ take-append_seam root h.above.0
 
 pub within-literals : (room : ℕ) (clause : List ℤ) → All (IsWithin room) clause → All IsLiteral clause
 within-literals room clause h k d inside = (h k d inside).is_literal

@@ -1,11 +1,12 @@
 -- The state of a search, and what its parts do to it.
-use Rattle.std.specs.Prelude.{◌≡◌, ◌+◌, ◌*◌, ◌++◌, ◌∷◌, ℕ, List, [], ℤ, length, take, min}
+use Rattle.std.specs.Prelude.{◌≡◌, ◌+◌, ◌*◌, ◌++◌, ◌∷◌, ℕ, List, [], ℤ, length, min}
 use Rattle.std.specs.List.{All}
 use Rattle.std.specs.declared.option.Option.{Option}
 use Rattle.std.specs.declared.option.Option.TheVariants.{None}
 use Rattle.word_kit.specs.Prelude.{IsFormula, AreClauses}
 use Rattle.word_kit.specs.declared.formulas.Formula.{Formula}
-use Rattle.watched_literals.specs.Prelude.{IsWithin, IsReady, IsAbove, IsComplete}
+use Rattle.watched_literals.specs.Prelude.{IsWithin, IsReady, IsAbove, IsComplete, IsLeveled}
+use Rattle.watched_literals.specs.declared.levels.Levels.{Levels}
 use Rattle.sat_core.specs.Decisions.{IsClosedUnder, IsGained, Leads}
 use Rattle.sat_core.specs.Lessons.{IsLesson}
 use Rattle.sat_core.specs.Verdicts.{IsModel}
@@ -66,14 +67,12 @@ pub record Reaches (wanted : ℤ → Type 0) (old new : Search) (last : Option �
   pub complete : last ≡ None → IsComplete new.propagator
   pub leads : Leads (known old) wanted old.propagator.trail.literals new.propagator.trail.literals new.assumed.items last
 
--- nothing is assumed any more, and only the first literals are true still
+-- nothing is assumed any more
 pub record Restarts (root : ℕ) (old new : Search) : Type 0 where
   pub formula : new.formula.now ≡ old.formula.now
   pub steps : new.steps.items ≡ old.steps.items
   pub room : new.propagator.trail.room ≡ old.propagator.trail.room
   pub bare : new.assumed.items ≡ []
-  pub trail : new.propagator.trail.literals ≡ take root old.propagator.trail.literals
-  pub above : (literals : List ℤ) → root ≡ length literals → IsAbove (known old) literals old.propagator → IsAbove (known old) literals new.propagator
   pub ready : (literals : List ℤ) → root ≡ length literals → IsAbove (known old) literals old.propagator → IsReady (known old) new.propagator
 
 -- a clause that is worth learning, found by a search that is back at its root
@@ -94,3 +93,8 @@ pub record IsLearned (old new : Search) (clause : List ℤ) : Type 0 where
   pub rooted : IsRooted new
   pub formula : new.formula.now ≡ old.formula.now
   pub steps : new.steps.items ≡ old.steps.items ++ clause ∷ []
+
+-- what a search goes by knows the same clauses
+pub record IsGuided (clauses : List (List ℤ)) (room : ℕ) (levels : Levels) : Type 0 where
+  pub leveled : IsLeveled clauses levels
+  pub room_is : levels.propagator.trail.room ≡ room

@@ -3,7 +3,7 @@
 
 use crate::order::Order;
 use std::alloc::Global;
-use watched_literals::{Literal, Propagator};
+use watched_literals::{Levels, Literal, Propagator};
 use word_kit::NoMemory;
 
 /// Places of a trail that are marked, and how many of them belong to the last level.
@@ -58,20 +58,23 @@ impl Marks {
     }
 }
 
-/// The literals of the trail that the last conflict rests on: of those from `level` on only the last that all ways there pass
-/// through, and of those between `root` and `level` the ones that are needed beside it.
+/// The literals of the trail that the last conflict rests on: of those of the last level only the last that all ways there pass
+/// through, and of those between the root and it the ones that are needed beside it. No literals where no clause is false.
 pub fn analyze(
     alloc: Global,
-    propagator: &Propagator,
-    root: usize,
-    level: usize,
+    levels: &Levels,
     order: &mut Order,
 ) -> Result<Vec<Literal>, NoMemory> {
+    if !levels.is_failed {
+        return Ok(Vec::new(alloc));
+    }
+    let propagator = &levels.propagator;
+    let level = levels.starts.last().copied().unwrap_or(levels.root);
     let marked = vec![in alloc; false; propagator.len()]?;
     let end = marked.len();
     let mut marks = Marks {
         marked,
-        root,
+        root: levels.root,
         level,
         open: 0,
     };

@@ -3,6 +3,7 @@
 #![tactic(auto)]
 
 mod analysis;
+mod guide;
 mod minimizing;
 mod order;
 mod search;

@@ -1,7 +1,7 @@
 //! In which order variables are decided, and which value is tried first. No promise rests on it.
 use crate::search::LAST_VARIABLE;
 use std::alloc::Global;
-use watched_literals::{Literal, Propagator};
+use watched_literals::{Levels, Literal};
 use word_kit::NoMemory;
 
 /// What a conflict adds to the score of each variable that it was found by.
@@ -124,9 +124,9 @@ impl Order {
     }
 
     /// The values that variables have now are tried first, where they were not settled at the root.
-    pub fn keep_values(&mut self, propagator: &Propagator, root: usize) {
-        for place in root..propagator.len() {
-            if let Some(literal) = propagator.literal(place) {
+    pub fn keep_values(&mut self, levels: &Levels) {
+        for place in levels.root..levels.propagator.len() {
+            if let Some(literal) = levels.propagator.literal(place) {
                 if let Some(preference) = self.preference(literal) {
                     preference.literal = literal;
                 }

@@ -4,41 +4,40 @@ ghost use Rattle.word_kit.specs.Prelude.{IsFormula};
 ghost use Rattle.sat_core.specs.Decisions.{IsLiteralOf, IsVariable};
 ghost use Rattle.sat_core.specs.Searching.{IsSearching, IsStart, Reaches};
 
-use crate::order::Order;
 use std::alloc::Global;
-use watched_literals::{Literal, Propagator, literals_of_all};
+use watched_literals::{Literal, Literals, Propagator};
 use word_kit::{Clause, Formula, NoMemory};
 
 /// The variables that literals can name are those up to this one.
 pub const LAST_VARIABLE: u32 = 2_147_483_647;
 
-/// A formula, the clauses that were learned from it, the literals that follow, the opposites of those that were assumed, and
-/// the order in which variables are decided.
+/// A formula, the clauses that were learned from it, the literals that follow, and the opposites of those that were assumed.
 #[derive(Drop)]
 pub struct Search<'a> {
     pub formula: &'a Formula,
     pub steps: Vec<Clause>,
     pub propagator: Propagator,
     pub assumed: Vec<Literal>,
-    pub order: Order,
 }
 
 impl<'a> Search<'a> {
     /// Nothing is assumed, and nothing is learned.
-    pub fn new(alloc: Global, formula: &'a Formula) -> Result<Search<'a>, NoMemory>
-        requires { IsFormula formula.now }
+    pub fn new(
+        alloc: Global,
+        formula: &'a Formula,
+        clauses: &[Literals],
+    ) -> Result<Search<'a>, NoMemory>
+        requires formula { IsFormula formula.now }
+        requires clauses { clauses.now ≡ formula.now.clauses }
         ensures { IfOk result (IsStart formula.now) }
     {
         let room = 2 * formula.variables.min(LAST_VARIABLE) as usize + 2;
-        let clauses = literals_of_all(alloc, formula.clauses.as_slice())?;
-        let propagator = Propagator::over(alloc, &clauses, room)?;
-        let order = Order::new(alloc, formula.variables)?;
+        let propagator = Propagator::over(alloc, clauses, room)?;
         Ok(Search {
             formula,
             steps: Vec::new(alloc),
             propagator,
             assumed: Vec::new(alloc),
-            order,
         })
     }
 
@@ -91,12 +90,12 @@ impl<'a> Search<'a> {
         Ok(None)
     }
 
-    /// Decides variables until a clause is false or each variable has a value, the preferred literals first.
-    pub fn decide(&mut self, preferred: &[Literal]) -> Result<Option<Literal>, NoMemory>
+    /// Assumes all variables until a clause is false, the proposed literals first.
+    pub fn decide(&mut self, proposed: &[Literal]) -> Result<Option<Literal>, NoMemory>
         requires { IsSearching self.old }
         ensures { IfOk result (λ last. Reaches (IsVariable self.old.formula.now.variables) self.old self.new last) }
     {
-        let last = self.assume_all(preferred)?;
+        let last = self.assume_all(proposed)?;
         if last.is_some() {
             return Ok(last);
         }

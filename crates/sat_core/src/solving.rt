@@ -1,4 +1,4 @@
-//! The solver: conflict-driven search that restarts after each learned clause.
+//! The solver: conflict-driven search.
 ghost use Rattle.std.specs.Prelude.{◌≡◌, false, IfOk, OnOk};
 ghost use Rattle.std.specs.List.{All};
 ghost use Rattle.word_kit.specs.Prelude.{IsFormula};
@@ -6,14 +6,14 @@ ghost use Rattle.watched_literals.specs.Prelude.{IsWithin};
 ghost use Rattle.sat_core.specs.Searching.{IsRooted, IsConflict, IsTaught, IsLearned, Restarts, Finds};
 ghost use Rattle.sat_core.specs.Verdicts.{IsVerdict};
 
-use crate::analysis::analyze;
+use crate::guide::Guide;
 use crate::minimizing::minimize;
 use crate::search::Search;
 use crate::values::values;
 use crate::{Values, Verdict};
 use std::alloc::Global;
 use std::mem;
-use watched_literals::{Literal, written};
+use watched_literals::{Literal, Literals, literals_of_all, written};
 use word_kit::{Clause, Clauses, Formula, NoMemory, Refutation};
 
 /// What one search comes to.
@@ -35,8 +35,7 @@ impl<'a> Search<'a> {
         mem::replace(&mut self.assumed, Vec::new(alloc))
     }
 
-    /// The clause to be learned from a conflict: that of what it rests on where assuming that leads to a conflict again, and else
-    /// that of the decisions, each without the literals that it can do without.
+    /// The clause to be learned from a conflict: that of the assumed literals, without those that it can do without.
     fn lesson(
         &mut self,
         alloc: Global,
@@ -46,41 +45,31 @@ impl<'a> Search<'a> {
         requires { IsConflict root last self.old }
         ensures { IfOk result (λ clause. IsTaught self.old self.new clause.items) }
     {
-        let level = self.propagator.place_of(last.opposite()).unwrap_or(root);
-        let proposed = analyze(alloc, &self.propagator, root, level, &mut self.order)?;
-        self.order.keep_values(&self.propagator, root);
-        let decided = self.restart(alloc, root);
-        let found = self.assume_all(&proposed)?;
-        let again = self.restart(alloc, root);
-        match found {
-            Some(literal) => Ok(minimize(alloc, &mut self.propagator, &again, literal)?),
-            None => Ok(minimize(alloc, &mut self.propagator, &decided, last)?),
-        }
+        let assumed = self.restart(alloc, root);
+        Ok(minimize(alloc, &mut self.propagator, &assumed, last)?)
     }
 
-    /// One search from the root on.
-    fn turn(&mut self, alloc: Global) -> Result<Found, NoMemory>
+    /// Assumes what is proposed from the root on.
+    fn turn(&mut self, alloc: Global, proposed: &[Literal]) -> Result<Found, NoMemory>
         requires rooted { IsRooted self.old }
         requires open_root { self.old.propagator.refuted ≡ false }
         ensures { IfOk result (λ found. Finds self.old self.new found) }
     {
         let root = self.propagator.len();
-        let preferred = self.order.literals(alloc)?;
-        match self.decide(&preferred)? {
+        match self.decide(proposed)? {
             Some(last) => Ok(Found::Lesson(self.lesson(alloc, root, last)?)),
             None => Ok(Found::Model(values(alloc, &self.propagator, self.formula.variables)?)),
         }
     }
 
     /// Adds the clause to the learned ones.
-    fn learn(&mut self, alloc: Global, clause: &[Literal]) -> Result<(), NoMemory>
+    fn learn(&mut self, alloc: Global, clause: &Literals) -> Result<(), NoMemory>
         requires rooted { IsRooted self.old }
         requires within { All (IsWithin self.old.propagator.trail.room) clause.now }
         ensures { OnOk result (IsLearned self.old self.new clause.now) }
     {
-        self.order.learned(clause);
         self.propagator.add(clause)?;
-        self.steps.push(written(alloc, clause)?)?;
+        self.steps.push(written(alloc, clause.as_slice())?)?;
         Ok(())
     }
 }
@@ -95,16 +84,21 @@ pub fn solve(alloc: Global, formula: &Formula, limit: usize) -> Result<Verdict, 
     requires { IsFormula formula.now }
     ensures { IfOk result (λ verdict. IsVerdict formula.now limit verdict) }
 {
-    let mut search = Search::new(alloc, formula)?;
+    let clauses = literals_of_all(alloc, formula.clauses.as_slice())?;
+    let mut search = Search::new(alloc, formula, &clauses)?;
+    let mut guide = Guide::new(alloc, formula, &clauses)?;
     'learning: while !search.propagator.is_refuted() {
-        match search.turn(alloc)? {
+        let proposed = guide.propose(alloc)?;
+        match search.turn(alloc, &proposed)? {
             Found::Model(values) => return Ok(Verdict::Model(Values::from(values))),
             Found::Lesson(clause) => {
                 if search.steps.len() == limit {
                     let clauses = Clauses::from(search.steps);
                     return Ok(Verdict::Spent(Refutation { clauses }));
                 }
-                search.learn(alloc, &clause)?;
+                let lesson = Literals::new(clause)?;
+                search.learn(alloc, &lesson)?;
+                guide.learn(&lesson)?;
             }
         }
     }

@@ -1,13 +1,13 @@
 -- Known clauses: how one more is added, and whether one follows.
-use Rattle.std.proofs.Common.{◌≡◌, ◌≢◌, ◌⊎◌, inl, inr, ℕ, ◌<◌, Bool, true, false, cond, List, [], ◌∷◌, ◌++◌, ℤ, pos, neg_ℤ, length, take, set, get_or, refl, sym, subst, ap, ◌∙◌, arith, length-append, true≢false}
+use Rattle.std.proofs.Common.{◌≡◌, ◌≢◌, ◌⊎◌, inl, inr, ℕ, ◌<◌, ◌≤◌, ◌+◌, ◌-◌, Bool, true, false, cond, List, [], ◌∷◌, ◌++◌, ℤ, pos, neg_ℤ, length, take, get_or, refl, sym, subst, ap, ◌∙◌, arith, length-append, true≢false}
 use Rattle.std.proofs.lemmas.Bool.{false≢true, cases_lt}
 use Rattle.std.specs.Bool.{Decides}
 use Rattle.std.specs.List.{All, Contains}
 use Rattle.std.proofs.lemmas.List.Elements.{All-contains, Contains-append_left, Contains-push, Contains-push_cases}
 use Rattle.std.proofs.lemmas.List.{length-set, get_or_past, get_or_append_left}
-use Rattle.std.proofs.Math.Seq.{take-append_seam, get_or-append_seam}
+use Rattle.std.proofs.Math.Seq.{take-append_seam, take-append-add, get_or-append_seam}
 use Rattle.word_kit.specs.Prelude.{IsLiteral}
-use Rattle.watched_literals.specs.Prelude.{IsMadeTrue, HasConflict, Follows, AreMadeTrue, IsConsistent, IsUnit, IsFalse, AllSettled, Extends, IsDenied, Denies, Pair, Propagator, code, IsWithin, IsWatch, no_pair, IsPair, IsStore, IsStored, IsFree, IsTrueIn, AllWatched, Moves, AreAmong, Keeps, Propagates, Watches, IsOpenAt, AreHeld, IsAbove, IsOpen, IsReady, IsTried, Spreads}
+use Rattle.watched_literals.specs.Prelude.{IsMadeTrue, HasConflict, Follows, AreMadeTrue, IsConsistent, IsUnit, IsFalse, AllSettled, Extends, IsDenied, Denies, Pair, Propagator, code, IsWithin, IsWatch, no_pair, IsPair, IsStore, IsStored, IsFree, IsTrueIn, AllWatched, Moves, AreAmong, Keeps, Propagates, Watches, IsOpenAt, AreHeld, IsAbove, IsOpen, IsReady, IsTried, Spreads, StaysWatched, Implies}
 use Rattle.watched_literals.specs.Propagation.IsMadeTrue.{unit}
 use Rattle.watched_literals.proofs.Trails.{Contains-nil, Contains-take, consistent-push, extends-on, made-more, conflict-more, not-following}
 use Rattle.watched_literals.proofs.Trails.{cut-back}
@@ -461,3 +461,78 @@ pub above-back : (known : List (List ℤ)) (root : List ℤ) (old new : Propagat
     → new.trail.literals ≡ take count old.trail.literals → IsAbove known root old → IsOpen known new new.trail.literals
 above-back known root old new count at a is h =
     subst (IsOpen known new) (sym (cut-back root old.trail.literals new.trail.literals count at h.above is)) (open-alike known old new root a h.base)
+
+-- ---- a clause that is unit is learned above the root
+
+pub unit-front : (clauses : List (List ℤ)) (pairs : List Pair) (trail now clause : List ℤ) (new : Pair) (literal : ℤ) (n : ℕ) → length pairs ≡ length clauses
+    → n ≡ length trail → now ≡ trail ++ literal ∷ [] → Contains clause literal → AllWatched clauses pairs trail trail
+    → AllWatched (clauses ++ clause ∷ []) (pairs ++ new ∷ []) (take n now) now
+unit-front clauses pairs trail now clause new literal n paired at is inside a p h = elim (cases_lt p (length clauses)) [
+  | inl less ↦
+      let e : get_or (clauses ++ clause ∷ []) p [] ≡ get_or clauses p [] = get_or_append_left clauses (clause ∷ []) [] p less in
+      let f : get_or (pairs ++ new ∷ []) p no_pair ≡ get_or pairs p no_pair = get_or_append_left pairs (new ∷ []) no_pair p (omega (arith, less, paired)) in
+      elim (watched-front clauses pairs trail now n at (literal ∷ [], is) a p less) [
+        | inl t ↦ inl (subst (IsTrueIn now) (sym e) t)
+        | inr k ↦ inr (subst (IsFree (take n now)) (sym f) k)
+      ]
+  | inr past ↦
+      let at_end : p ≡ length clauses = omega (arith, h, past, length-append clauses (clause ∷ [])) in
+      inl (subst (IsTrueIn now) (sym (ap (λ q. get_or (clauses ++ clause ∷ []) q []) at_end ∙ get_or-append_seam clauses clause [] []))
+      (literal, inside, subst (λ xs. Contains xs literal) (sym is) (Contains-push trail literal)))
+]
+
+module _ (clause : List ℤ) (literal other : ℤ) (old mid now new : Propagator) (fails : Bool) (u : IsUnit old.trail.literals clause literal)
+    (other_in : Contains clause other) (apart : other ≢ literal) (stored : IsStored old (pos 0) []) (trail : mid.trail ≡ old.trail)
+    (w : Watches clause (record { one = literal; other = other }) old mid) (a : Alike mid now)
+    (is : now.trail.literals ≡ old.trail.literals ++ literal ∷ []) (refuted : now.refuted ≡ old.refuted) (k : Keeps now new) (p : Propagates now new fails) where
+  abbrev pair : Pair
+  pair = record { one = literal; other = other }
+
+  unit-free : (part : List ℤ) → ((x : ℤ) → Contains part x → Contains old.trail.literals x) → (¬ Contains part (neg_ℤ other)) → IsFree part pair
+  unit-free part sub free = ((λ m. u.not_false (sub (neg_ℤ literal) m)), free)
+
+  before : (x : ℤ) → Contains old.trail.literals x → Contains now.trail.literals x
+  before x m = subst (λ xs. Contains xs x) (sym is) (Contains-append_left old.trail.literals (literal ∷ []) x m)
+
+  unit-above : (known : List (List ℤ)) (root : List ℤ) → IsAbove known root old → (¬ Contains root (neg_ℤ other)) → IsAbove (known ++ clause ∷ []) root new
+  unit-above known root h free =
+      let up : Extends root now.trail.literals = extends-on root old.trail.literals now.trail.literals h.above (literal ∷ [], is) in
+      let root_in : (x : ℤ) → Contains root x → Contains old.trail.literals x = λ x m. subst (λ xs. Contains xs x) (sym h.above.1) (Contains-append_left root h.above.0 x m) in
+      let f = unit-free root root_in free in
+      record {
+        open_root = k.refuted ∙ refuted ∙ h.open_root;
+        base = assumed-above (known ++ clause ∷ []) root mid now new fails up a k p
+            (added-open known clause old mid pair root (record { one_in = u.inside; other_in = other_in; apart = λ e. apart (sym e); one_free = f.0; other_free = f.1 }) w h.base);
+        above = extends-on root now.trail.literals new.trail.literals up p.rises.extends;
+      }
+
+  pub implied : Implies clause other old new fails
+  implied = record {
+    refuted = k.refuted ∙ refuted;
+    extends = extends-on old.trail.literals now.trail.literals new.trail.literals (literal ∷ [], is) p.rises.extends;
+    above = unit-above;
+    watched = λ part sub free h.
+        subst (λ cs. AllWatched cs new.pairs.items part part) (sym (k.clauses ∙ a.clauses ∙ w.clauses))
+        (watched-back (old.clauses.items ++ clause ∷ []) (old.pairs.items ++ pair ∷ []) new.pairs.items part now.trail.literals (λ x m. before x (sub x m))
+        (subst (λ ps. Moves now.trail.literals ps new.pairs.items) (a.pairs ∙ w.pairs) p.moves)
+        (watched-add old.clauses.items old.pairs.items part clause pair stored.paired h (unit-free part sub free)));
+    complete = p.watched;
+  }
+
+-- what was assumed leaves the invariant of watches as it was below
+pub assumed-stays : (old mid new : Propagator) (fails : Bool) → ((x : ℤ) → Contains old.trail.literals x → Contains mid.trail.literals x) → Alike old mid
+    → Keeps mid new → Propagates mid new fails → StaysWatched old new
+assumed-stays old mid new fails up a k p part sub h =
+    subst (λ cs. AllWatched cs new.pairs.items part part) (sym (k.clauses ∙ a.clauses))
+    (watched-back old.clauses.items old.pairs.items new.pairs.items part mid.trail.literals (λ x m. up x (sub x m))
+    (subst (λ ps. Moves mid.trail.literals ps new.pairs.items) a.pairs p.moves) h)
+
+-- a root that is longer than this stays below what is kept
+pub above-cut : (root old new : List ℤ) (count : ℕ) → length root ≤ count → Extends root old → new ≡ take count old → Extends root new
+above-cut root old new count within e is = (
+  take (count - length root) e.0,
+  is ∙ ap (take count) e.1 ∙ ap (λ n. take n (root ++ e.0)) at ∙ take-append-add root e.0 (count - length root),
+)
+  where
+    at : count ≡ length root + (count - length root)
+    at = omega (arith, within)

@@ -7,7 +7,7 @@ use Rattle.std.specs.Ordering.{int_eq}
 use Rattle.std.proofs.lemmas.Bool.Decides.{Decides-int_eq, Decides-not}
 use Rattle.std.proofs.lemmas.List.Elements.{All-contains, All-push, All-take, All-contains_itself, Contains-append_left, Contains-append_right, Contains-push, Contains-push_cases, Contains-get_or}
 use Rattle.std.proofs.Math.IntN.{neg_ℤ-neg_ℤ}
-use Rattle.std.proofs.lemmas.List.{take_more}
+use Rattle.std.proofs.lemmas.List.{take_more, take-take}
 use Rattle.std.proofs.Math.Seq.{take-length, take-append_seam}
 use Rattle.indexmap.specs.IndexSet.{insert_key}
 use Rattle.word_kit.specs.Prelude.{IsLiteral, AreClauses}
@@ -337,3 +337,9 @@ follows-refuted clauses clause h =
 
 pub cut-back : (old now new : List ℤ) (n : ℕ) → n ≡ length old → Extends old now → new ≡ take n now → new ≡ old
 cut-back old now new n at e is = is ∙ ap (take n) e.1 ∙ ap (λ m. take m (old ++ e.0)) at ∙ take-append_seam old e.0
+
+-- a literal that doesn't stand before a place
+pub fresh-before : (trail : List ℤ) (place start : ℕ) (x : ℤ) → start ≤ place → list_any (int_eq x) (take place trail) ≡ false
+    → ¬ Contains (take start trail) x
+fresh-before trail place start x within e m = unlisted (take place trail) x e
+    (Contains-take (take place trail) start x (subst (λ xs. Contains xs x) (sym (take-take start place trail within)) m))

@@ -1,5 +1,5 @@
 -- All that is kept of known clauses, and what trying a clause tells.
-use Rattle.std.specs.Prelude.{◌≡◌, ◌≢◌, ◌⊎◌, [], Bool, true, false, cond, List, ℤ, pos, neg_ℤ}
+use Rattle.std.specs.Prelude.{◌≡◌, ◌≢◌, ◌⊎◌, ◌++◌, ◌∷◌, [], Bool, true, false, cond, List, ℤ, pos, neg_ℤ}
 use Rattle.std.specs.List.{Contains}
 use Rattle.watched_literals.specs.Propagation.{HasConflict, Follows}
 use Rattle.watched_literals.specs.Trails.{AreMadeTrue, IsConsistent, Extends, IsUnit, IsFalse, AllSettled, Refutes}
@@ -7,7 +7,7 @@ use Rattle.watched_literals.specs.declared.standing.Standing.{Standing}
 use Rattle.watched_literals.specs.declared.standing.Standing.TheVariants as standing
 use Rattle.watched_literals.specs.declared.propagator.Propagator.{Propagator}
 use Rattle.watched_literals.specs.Literals.{AreReasoned}
-use Rattle.watched_literals.specs.Watches.{IsStored, AllWatched, Moves, AreAmong, IsTrueIn}
+use Rattle.watched_literals.specs.Watches.{IsStored, IsComplete, AllWatched, Moves, AreAmong, IsTrueIn}
 
 -- two literals of the clause that aren't false
 pub record IsOpenAt (trail clause : List ℤ) (one other : ℤ) : Type 0 where
@@ -72,3 +72,12 @@ pub record Completes (known : List (List ℤ)) (old new : List ℤ) : Type 0 whe
 abbrev pub Spreads : List (List ℤ) → List ℤ → List ℤ → Bool → Type 0
 Spreads known old new true = Refutes known old × Extends old new
 Spreads known old new false = Completes known old new
+
+-- what learning a clause does that is unit: below the place where another of its literals became false, all stands as it did
+pub record Implies (clause : List ℤ) (other : ℤ) (old new : Propagator) (fails : Bool) : Type 0 where
+  pub refuted : new.refuted ≡ old.refuted
+  pub extends : Extends old.trail.literals new.trail.literals
+  pub above : (known : List (List ℤ)) (root : List ℤ) → IsAbove known root old → (¬ Contains root (neg_ℤ other)) → IsAbove (known ++ clause ∷ []) root new
+  pub watched : (part : List ℤ) → ((literal : ℤ) → Contains part literal → Contains old.trail.literals literal) → (¬ Contains part (neg_ℤ other))
+      → AllWatched old.clauses.items old.pairs.items part part → AllWatched new.clauses.items new.pairs.items part part
+  pub complete : fails ≢ true → IsComplete new

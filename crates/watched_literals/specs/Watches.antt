@@ -118,3 +118,8 @@ pub record Watches (clause : List ℤ) (pair : Pair) (old new : Propagator) : Ty
   pub pairs : new.pairs.items ≡ old.pairs.items ++ pair ∷ []
   pub pending : new.pending ≡ old.pending
   pub stored : IsStored new (pos 0) []
+
+-- the invariant of watches stays where it holds of a part of the trail
+abbrev pub StaysWatched : Propagator → Propagator → Type 0
+StaysWatched old new = (part : List ℤ) → ((literal : ℤ) → Contains part literal → Contains old.trail.literals literal)
+    → AllWatched old.clauses.items old.pairs.items part part → AllWatched new.clauses.items new.pairs.items part part

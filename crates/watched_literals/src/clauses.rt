@@ -6,32 +6,40 @@ ghost use Rattle.word_kit.specs.Prelude.{IsLiteral, AreClauses};
 use crate::literal::Literal;
 use std::alloc::Global;
 use std::marker::Model;
+use std::rc::RcSlice;
 use word_kit::{Clause, NoMemory};
 
-/// The literals of a clause. Contracts see the list of them.
+/// The literals of a clause, which stand once, however many hold them. Contracts see the list of them.
 #[derive(Drop)]
 pub struct Literals {
-    items: Vec<Literal>,
+    items: RcSlice<Literal>,
 }
 
 impl Model for Literals {
     ghost use Rattle.std.specs.Prelude.{List, ℤ};
+    ghost use Rattle.std.specs.Rc.{rc_slice_items};
 
     ghost Value = { List ℤ };
 
-    ghost view = { λ l. l.items.items };
-}
-
-impl From<Vec<Literal>> for Literals {
-    ghost from_gives = { λ vec literals. literals ≡ vec.items };
-
-    /// Takes no memory.
-    fn from(items: Vec<Literal>) -> Literals {
-        Literals { items }
-    }
+    ghost view = { λ l. rc_slice_items l.items };
 }
 
 impl Literals {
+    pub fn new(items: Vec<Literal>) -> Result<Literals, NoMemory>
+        ensures { IfOk result (λ literals. literals ≡ items.items) }
+    {
+        let items = RcSlice::from_vec(items)?;
+        Ok(Literals { items })
+    }
+
+    /// The same literals for another holder.
+    pub fn share(&self) -> Result<Literals, NoMemory>
+        ensures { IfOk result (λ literals. literals ≡ self.now) }
+    {
+        let items = self.items.clone()?;
+        Ok(Literals { items })
+    }
+
     pub fn as_slice(&self) -> &[Literal]
         ensures { result.now ≡ self.now }
     {
@@ -48,7 +56,7 @@ fn literals_of(alloc: Global, clause: &[i32]) -> Result<Literals, NoMemory>
     for number in clause {
         literals.push(Literal::new(*number))?;
     }
-    Ok(Literals::from(literals))
+    Literals::new(literals)
 }
 
 /// The literals of each written clause.

@@ -3,6 +3,7 @@
 #![tactic(auto)]
 
 mod clauses;
+mod levels;
 mod lists;
 mod literal;
 mod numbering;
@@ -12,6 +13,7 @@ mod trail;
 mod watches;
 
 pub use clauses::{Literals, literals_of_all, written};
+pub use levels::Levels;
 pub use literal::Literal;
 pub use numbering::Numbering;
 pub use propagator::Propagator;

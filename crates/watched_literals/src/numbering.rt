@@ -65,7 +65,7 @@ impl Numbering {
         for literal in clause {
             numbers.push(self.number(*literal)?)?;
         }
-        Ok(Literals::from(numbers))
+        Literals::new(numbers)
     }
 
     /// The clauses with numbers in place of their variables.

@@ -1,13 +1,13 @@
 //! Known clauses, what they make true, and whether another clause follows from them.
-ghost use Rattle.std.specs.Prelude.{◌≡◌, ◌≢◌, true, None, Some, take, slice_get, slice_index_or, IfSome, ◌≤◌, ◌<◌, ◌+◌, ◌*◌, ◌^◌, ◌++◌, ◌∷◌, [], List, ℕ, ℤ, pos, length, IfOk, OnOk};
+ghost use Rattle.std.specs.Prelude.{◌≡◌, ◌≢◌, true, false, None, Some, take, slice_get, slice_index_or, IfSome, ◌≤◌, ◌<◌, ◌+◌, ◌*◌, ◌^◌, ◌++◌, ◌∷◌, [], List, ℕ, ℤ, pos, length, IfOk, OnOk};
 ghost use Rattle.std.specs.Bool.{Decides};
 ghost use Rattle.std.specs.List.{All, Contains, list_any};
 ghost use Rattle.std.specs.Ordering.{int_eq};
 ghost use Rattle.watched_literals.specs.Propagation.{Follows};
-ghost use Rattle.watched_literals.specs.Trails.{Denies};
+ghost use Rattle.watched_literals.specs.Trails.{Denies, Extends, IsUnit};
 ghost use Rattle.watched_literals.specs.Literals.{IsWithin, AreReasoned, clause_at};
-ghost use Rattle.watched_literals.specs.Watches.{IsStored, IsComplete, Keeps};
-ghost use Rattle.watched_literals.specs.Propagators.{IsReady, IsReasoned, IsTried, IsAbove, Spreads};
+ghost use Rattle.watched_literals.specs.Watches.{IsStored, IsComplete, Keeps, StaysWatched};
+ghost use Rattle.watched_literals.specs.Propagators.{IsReady, IsReasoned, IsTried, IsAbove, Spreads, Implies};
 
 use crate::clauses::Literals;
 use crate::lists::WatchList;
@@ -23,7 +23,6 @@ use word_kit::NoMemory;
 /// clause is false where nothing is assumed.
 #[derive(Drop)]
 pub struct Propagator {
-    pub(crate) alloc: Global,
     pub(crate) clauses: Vec<Literals>,
     pub(crate) pairs: Vec<Pair>,
     pub(crate) rows: Vec<WatchList>,
@@ -65,7 +64,6 @@ impl Propagator {
         }
         let trail = Trail::new(alloc, room)?;
         Ok(Propagator {
-            alloc,
             clauses: Vec::new(alloc),
             pairs: Vec::new(alloc),
             rows,
@@ -84,13 +82,13 @@ impl Propagator {
     {
         let mut propagator = Propagator::new(alloc, room)?;
         for place in 0..clauses.len() {
-            propagator.add(clauses[place].as_slice())?;
+            propagator.add(&clauses[place])?;
         }
         Ok(propagator)
     }
 
     /// Adds a clause to the known ones.
-    pub fn add(&mut self, clause: &[Literal]) -> Result<(), NoMemory>
+    pub fn add(&mut self, clause: &Literals) -> Result<(), NoMemory>
         requires ready { (known : List (List ℤ)) × IsReady known self.old }
         requires literals { All (IsWithin self.old.trail.room) clause.now }
         ensures room { self.new.trail.room ≡ self.old.trail.room }
@@ -100,7 +98,7 @@ impl Propagator {
         if self.refuted {
             return Ok(());
         }
-        match standing_of(clause, &self.trail) {
+        match standing_of(clause.as_slice(), &self.trail) {
             Standing::True => {}
             Standing::Open(one, other) => {
                 self.watch(clause, one, other)?;
@@ -162,6 +160,9 @@ impl Propagator {
         ensures room { self.new.trail.room ≡ self.old.trail.room }
         ensures reasons { OnOk result (IsReasoned self.old → IsReasoned self.new) }
         ensures above { OnOk result ((known : List (List ℤ)) (root : List ℤ) → IsAbove known root self.old → IsAbove known root self.new) }
+        ensures refuted { self.new.refuted ≡ self.old.refuted }
+        ensures extends { OnOk result (Extends self.old.trail.literals self.new.trail.literals) }
+        ensures watched { OnOk result (StaysWatched self.old self.new) }
         ensures complete { IfOk result (λ fails. fails ≢ true → IsComplete self.new) }
         ensures spreads { IfOk result (λ fails. (known : List (List ℤ)) (root : List ℤ) → IsAbove known root self.old
             → Spreads known (self.old.trail.literals ++ literal ∷ []) self.new.trail.literals fails) }
@@ -172,13 +173,40 @@ impl Propagator {
         Ok(fails)
     }
 
-    /// Goes back to the first `count` literals, where these are the root.
+    /// Adds a clause all of whose literals but this one are false to the known ones, watched by this one and another literal of it,
+    /// makes the literal true, with what follows, and says whether a clause is false.
+    pub(crate) fn imply(
+        &mut self,
+        clause: &Literals,
+        literal: Literal,
+        other: Literal,
+    ) -> Result<bool, NoMemory>
+        requires ready { (known : List (List ℤ)) × (root : List ℤ) × IsAbove known root self.old }
+        requires complete { IsComplete self.old }
+        requires literals { All (IsWithin self.old.trail.room) clause.now }
+        requires unit { IsUnit self.old.trail.literals clause.now literal }
+        requires other { Contains clause.now other × (other ≢ literal) }
+        ensures room { self.new.trail.room ≡ self.old.trail.room }
+        ensures reasons { OnOk result (IsReasoned self.old → IsReasoned self.new) }
+        ensures implies { IfOk result (λ fails. Implies clause.now other self.old self.new fails) }
+    {
+        let place = self.clauses.len();
+        self.watch(clause, literal, other)?;
+        let visited = self.trail.len();
+        self.trail.push(literal, Some(place))?;
+        let fails = self.propagate(visited)?;
+        Ok(fails)
+    }
+
+    /// Goes back to the first `count` literals, the root among them.
     pub fn restart(&mut self, count: usize)
         ensures room { self.new.trail.room ≡ self.old.trail.room }
         ensures literals { self.new.trail.literals ≡ take count self.old.trail.literals }
         ensures reasons { IsReasoned self.old → IsReasoned self.new }
         ensures ready { (known : List (List ℤ)) (root : List ℤ) → count ≡ length root → IsAbove known root self.old → IsReady known self.new }
-        ensures above { (known : List (List ℤ)) (root : List ℤ) → count ≡ length root → IsAbove known root self.old → IsAbove known root self.new }
+        ensures above { (known : List (List ℤ)) (root : List ℤ) → length root ≤ count → IsAbove known root self.old → IsAbove known root self.new }
+        ensures refuted { self.new.refuted ≡ self.old.refuted }
+        ensures watched { StaysWatched self.old self.new }
     {
         self.trail.truncate(count);
     }
@@ -225,7 +253,8 @@ impl Propagator {
 
     /// Where the literal stands on the trail, if it is true.
     pub fn place_of(&self, literal: Literal) -> Option<usize>
-        ensures { IfSome result (λ place. slice_get self.now.trail.literals place ≡ Some literal) }
+        ensures stands { IfSome result (λ place. slice_get self.now.trail.literals place ≡ Some literal) }
+        ensures first { IfSome result (λ place. list_any (int_eq literal) (take place self.now.trail.literals) ≡ false) }
     {
         self.trail.place_of(literal)
     }

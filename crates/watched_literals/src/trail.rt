@@ -84,7 +84,8 @@ impl Trail {
 
     /// Where the literal stands, if it is true.
     pub fn place_of(&self, literal: Literal) -> Option<usize>
-        ensures { IfSome result (λ place. slice_get self.now.literals place ≡ Some literal) }
+        ensures stands { IfSome result (λ place. slice_get self.now.literals place ≡ Some literal) }
+        ensures first { IfSome result (λ place. list_any (int_eq literal) (take place self.now.literals) ≡ false) }
     {
         let place = *self.places.get(literal.code())?;
         if *self.literals.get(place)? == literal {

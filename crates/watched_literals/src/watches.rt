@@ -62,7 +62,7 @@ impl Propagator {
     /// Watches two literals of one clause more.
     pub(crate) fn watch(
         &mut self,
-        clause: &[Literal],
+        clause: &Literals,
         one: Literal,
         other: Literal,
     ) -> Result<(), NoMemory>
@@ -74,8 +74,7 @@ impl Propagator {
         ensures watches { OnOk result (Watches clause.now (record { one = one; other = other }) self.old self.new) }
     {
         let place = self.clauses.len();
-        let literals = Vec::from_slice(self.alloc, clause)?;
-        self.clauses.push(Literals::from(literals))?;
+        self.clauses.push(clause.share()?)?;
         self.pairs.push(Pair { one, other })?;
         list(&mut self.rows, one, place)?;
         list(&mut self.rows, other, place)?;

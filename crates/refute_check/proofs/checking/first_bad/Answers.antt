@@ -22,7 +22,7 @@ loop-place-preserved c =
     let v = c.in_ok-follows.ensures.follows known c.loop-place.invariant.ready in
     let d = step-judged c.args.formula.now c.args.steps.now c.loop-place.place c.as_slice.result.now c.index-steps-place.result c.in_ok-follows.field-0
     c.loop-place-test.true c.as_slice.ensures c.index-steps-place.is v in
-    let is = c.as_slice-in-loop-place.ensures ∙ get_or_read c.args.steps.now c.loop-place.place c.index-steps-place-in-loop-place.result c.loop-place-test.true c.index-steps-place-in-loop-place.is [] in
+    let is = get_or_read c.args.steps.now c.loop-place.place c.index-steps-place-in-loop-place.result c.loop-place-test.true c.index-steps-place-in-loop-place.is [] in
     record {
       room = c.in_ok-add.ensures.room ∙ c.in_ok-follows.ensures.room ∙ c.loop-place.invariant.room;
       ready = subst (λ ks. IsReady ks c.add.new.self)

@@ -8,7 +8,7 @@ pub returns : goal.returns
 returns c =
     let s = c.args.self.now in
     let clause = c.args.clause.now in
-    let steps = c.in_ok-push.ensures.items ∙ ap (λ x. s.steps.items ++ x ∷ []) c.in_ok-written.ensures in
+    let steps = c.in_ok-push.ensures.items ∙ ap (λ x. s.steps.items ++ x ∷ []) (c.in_ok-written.ensures ∙ c.as_slice.ensures) in
     record {
       rooted = record {
         ready = subst (λ cs. IsReady cs c.add.new.self)

@@ -8,7 +8,5 @@ returns-clause-restarts c = record {
   steps = refl;
   room = c.restart.ensures.room;
   bare = ap (λ v. v.items) c.replace.ensures.after ∙ c.new.ensures.items;
-  trail = c.restart.ensures.literals;
-  above = λ literals at h. c.restart.ensures.above (known c.args.self.now) literals at h;
   ready = λ literals at h. c.restart.ensures.ready (known c.args.self.now) literals at h;
 }

@@ -16,8 +16,8 @@ lesson-requires c =
     (record { ready = r.ready; bare = r.bare; room = r.room; formula = r.formula; literals = r.literals }) c.requires.open_root
     (subst (Reaches _ _ c.decide.new.self) c.in-Some.is c.in_ok-last.ensures)
 
-pub returns : goal.returns
-returns c =
+pub returns-in_ok-values-in-None : goal.returns-in_ok-values-in-None
+returns-in_ok-values-in-None c =
     let a = c.args.self.now in
     let b = c.decide.new.self in
     let h = subst (Reaches (IsVariable a.formula.now.variables) _ b) c.in-None.is c.in_ok-last.ensures in

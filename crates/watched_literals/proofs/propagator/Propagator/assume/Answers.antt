@@ -1,8 +1,10 @@
-use Rattle.std.proofs.Common.{◌∷◌, [], refl, subst, ◌∙◌}
+use Rattle.std.proofs.Common.{◌∷◌, [], refl, sym, subst, ◌∙◌}
+use Rattle.std.specs.List.{Contains}
+use Rattle.std.proofs.lemmas.List.Elements.{Contains-append_left}
 use Rattle.watched_literals.proofs.Trails.{tested, extends-on}
 use Rattle.watched_literals.specs.Prelude.{Spreads}
 use Rattle.watched_literals.proofs.Reasons.{reasoned-none}
-use Rattle.watched_literals.proofs.Knowing.{watched-front, above-more, assumed-above, assumed-spreads}
+use Rattle.watched_literals.proofs.Knowing.{watched-front, above-more, assumed-above, assumed-spreads, assumed-stays}
 use Rattle.watched_literals.proofs.propagator.Propagator.assume.Goals as goal
 
 pub push-requires-clause-fresh : goal.push-requires-clause-fresh
@@ -42,3 +44,10 @@ returns-clause-spreads c = λ known root h.
     (assumed-spreads known root s _ c.propagate.new.self c.in_ok-fails.fails now
     (record { clauses = refl; pairs = refl; rows = refl; pending = refl; room = c.in_ok-push.ensures.room }) c.in_ok-fails.ensures.keeps
     c.in_ok-fails.ensures.propagates h.base)
+
+pub returns-clause-watched : goal.returns-clause-watched
+returns-clause-watched c =
+    let s = c.args.self.now in
+    assumed-stays s _ c.propagate.new.self c.in_ok-fails.fails
+    (λ x m. subst (λ xs. Contains xs x) (sym c.in_ok-push.ensures.literals) (Contains-append_left s.trail.literals (c.args.literal ∷ []) x m))
+    (record { clauses = refl; pairs = refl; rows = refl; pending = refl; room = c.in_ok-push.ensures.room }) c.in_ok-fails.ensures.keeps c.in_ok-fails.ensures.propagates

@@ -1,5 +1,4 @@
-use Rattle.std.proofs.Common.{[], refl, sym, subst, ◌∙◌}
-use Rattle.watched_literals.specs.Prelude.{HasConflict, AreReasoned, IsOpen}
+use Rattle.std.proofs.Common.{refl, ◌∙◌}
 use Rattle.watched_literals.proofs.Trails.{follows-refuted}
 use Rattle.watched_literals.proofs.Reasons.{reasoned-take}
 use Rattle.watched_literals.proofs.Knowing.{open-at, open-ready, refuted-at, tried-verdict, tried-back}

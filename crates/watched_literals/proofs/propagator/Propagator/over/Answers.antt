@@ -7,7 +7,7 @@ pub loop-place-preserved : goal.loop-place-preserved
 loop-place-preserved c =
     let cs = c.args.clauses.now in
     let i = c.loop-place.place in
-    let is = c.as_slice.ensures ∙ get_or_read cs i c.index-clauses-place.result c.loop-place-test.true c.index-clauses-place.is [] in
+    let is = get_or_read cs i c.index-clauses-place.result c.loop-place-test.true c.index-clauses-place.is [] in
     record {
       room = c.in_ok-add.ensures.room ∙ c.loop-place.invariant.room;
       ready = subst (λ ks. IsReady ks c.add.new.self) (ap (λ x. take i cs ++ x ∷ []) is ∙ sym (take_more cs i [] c.loop-place-test.true))

@@ -1,7 +1,6 @@
-use Rattle.std.proofs.Common.{[], append-nil, refl, sym, ◌∙◌}
+use Rattle.std.proofs.Common.{refl}
 use Rattle.watched_literals.proofs.Reasons.{reasoned-take}
-use Rattle.watched_literals.proofs.Trails.{cut-back}
-use Rattle.watched_literals.proofs.Knowing.{open-alike, open-ready, above-back}
+use Rattle.watched_literals.proofs.Knowing.{open-alike, open-ready, above-back, above-cut}
 use Rattle.watched_literals.proofs.propagator.Propagator.restart.Goals as goal
 
 pub returns-clause-reasons : goal.returns-clause-reasons
@@ -14,13 +13,10 @@ returns-clause-ready c = λ known root at h.
     (record { clauses = refl; pairs = refl; rows = refl; pending = refl; room = c.truncate.ensures.room }) c.truncate.ensures.literals h)
 
 pub returns-clause-above : goal.returns-clause-above
-returns-clause-above c = λ known root at h.
+returns-clause-above c = λ known root within h.
     record {
       open_root = h.open_root;
       base = open-alike known c.args.self.now _ root
           (record { clauses = refl; pairs = refl; rows = refl; pending = refl; room = c.truncate.ensures.room }) h.base;
-      above = (
-        [],
-        cut-back root c.args.self.now.trail.literals c.truncate.new.self.literals c.args.count at h.above c.truncate.ensures.literals ∙ sym (append-nil root),
-      );
+      above = above-cut root c.args.self.now.trail.literals c.truncate.new.self.literals c.args.count within h.above c.truncate.ensures.literals;
     }

@@ -1,8 +1,8 @@
-use Rattle.std.proofs.Common.{◌≡◌, ◌≢◌, ◌<◌, ◌++◌, ◌∷◌, [], ℤ, neg_ℤ, length, set, get_or, refl, sym, subst, ap, ◌∙◌, arith}
+use Rattle.std.proofs.Common.{◌++◌, ◌∷◌, [], neg_ℤ, get_or, refl, sym, subst, ap, ◌∙◌, arith}
 use Rattle.std.specs.List.{All, Contains, list_any}
 use Rattle.std.specs.Ordering.{int_eq}
 use Rattle.std.proofs.lemmas.List.Elements.{All-contains}
-use Rattle.watched_literals.specs.Prelude.{IsWithin, IsUnit}
+use Rattle.watched_literals.specs.Prelude.{IsWithin}
 use Rattle.watched_literals.proofs.Trails.{listed, unlisted}
 use Rattle.watched_literals.proofs.Watching.{watch-at, watch-within, watch-apart, opposite-within, clause-read, rewatch-true, rewatch-move, rewatch-false, rewatch-unit, unit-of}
 use Rattle.watched_literals.proofs.Reasons.{reasoned-unit}

@@ -1,8 +1,8 @@
-use Rattle.std.proofs.Common.{◌≡◌, ◌++◌, ◌∷◌, [], pos, neg_ℤ, length, set, length-append, append-nil, refl, sym, subst, ap, ◌∙◌, arith}
+use Rattle.std.proofs.Common.{◌≡◌, ◌∷◌, [], pos, neg_ℤ, length, set, length-append, append-nil, refl, sym, subst, ap, ◌∙◌, arith}
 use Rattle.std.proofs.Math.IntN.{neg_ℤ-neg_ℤ}
 use Rattle.std.specs.List.{Contains}
 use Rattle.watched_literals.specs.Prelude.{IsWithin, IsStored}
-use Rattle.watched_literals.proofs.Watching.{IsVisiting, keeps-on, inside-of, opposite-within, rises-keeps, visiting-begin, visiting-more, visiting-popped, visits-ended, visits-done}
+use Rattle.watched_literals.proofs.Watching.{inside-of, opposite-within, rises-keeps, visiting-begin, visiting-more, visiting-popped, visits-ended, visits-done}
 use Rattle.watched_literals.proofs.propagator.Propagator.visit.Goals as goal
 
 pub loop-place-init : goal.loop-place-init
