@@ -6,6 +6,7 @@ ghost use Rattle.circuit.specs.Prelude.{word_value, word_reach_below, IsLater};
 ghost use Rattle.chosen_inputs.specs.Choices.{CanChoose};
 ghost use Rattle.row_runs.specs.Accesses.{big_number, little_number};
 ghost use Rattle.access_circuits.specs.Bytes.{HoldsBytes, BytesOwned};
+ghost use Rattle.access_circuits.specs.Terms.{big_term, little_term, bytes_term, input_bytes_term};
 
 use chosen_inputs::input_word;
 use circuit::{Gates, Lit};
@@ -15,6 +16,7 @@ use word_kit::{Alg, NoMemory};
 pub fn big_word(gates: &mut Gates, bytes: [[Lit; 32]; 4], width: u8) -> [Lit; 32]
     requires bytes_owned { BytesOwned (length gates.old.nodes.keys) bytes }
     ensures same { gates.new ≡ gates.old }
+    ensures makes { result ≡ big_term ⟦<Gates as Alg>⟧.ops bytes width }
     ensures owned { word_reach_below 32 result ≤ length gates.new.nodes.keys }
     ensures means { (w : ℕ → Bool) (f : ℕ → ℕ) → HoldsBytes w bytes f → word_value 32 result w ≡ big_number width f }
 {
@@ -36,6 +38,7 @@ pub fn big_word(gates: &mut Gates, bytes: [[Lit; 32]; 4], width: u8) -> [Lit; 32
 pub fn little_word(gates: &mut Gates, bytes: [[Lit; 32]; 4], width: u8) -> [Lit; 32]
     requires bytes_owned { BytesOwned (length gates.old.nodes.keys) bytes }
     ensures same { gates.new ≡ gates.old }
+    ensures makes { result ≡ little_term ⟦<Gates as Alg>⟧.ops bytes width }
     ensures owned { word_reach_below 32 result ≤ length gates.new.nodes.keys }
     ensures means { (w : ℕ → Bool) (f : ℕ → ℕ) → HoldsBytes w bytes f → word_value 32 result w ≡ little_number width f }
 {
@@ -57,6 +60,7 @@ pub fn little_word(gates: &mut Gates, bytes: [[Lit; 32]; 4], width: u8) -> [Lit;
 pub fn bytes_of(gates: &mut Gates, x: [Lit; 32]) -> [[Lit; 32]; 4]
     requires x_owned { word_reach_below 32 x ≤ length gates.old.nodes.keys }
     ensures same { gates.new ≡ gates.old }
+    ensures makes { result ≡ bytes_term ⟦<Gates as Alg>⟧.ops x }
     ensures owned { BytesOwned (length gates.new.nodes.keys) result }
     ensures means { (w : ℕ → Bool) (n : ℕ) → word_value 32 x w ≡ n → HoldsBytes w result (λ k. byte_of n k) }
 {
@@ -70,6 +74,7 @@ pub fn bytes_of(gates: &mut Gates, x: [Lit; 32]) -> [[Lit; 32]; 4]
 /// Four bytes of new inputs, for which any bytes can be chosen.
 pub fn input_bytes(gates: &mut Gates) -> Result<[[Lit; 32]; 4], NoMemory>
     ensures later { IsLater gates.old.nodes.keys gates.new.nodes.keys }
+    ensures makes { IfOk result (λ r. record { bytes = r; held = gates.new.nodes.keys } ≡ input_bytes_term gates.old.nodes.keys) }
     ensures owned { IfOk result (λ r. BytesOwned (length gates.new.nodes.keys) r) }
     ensures chosen { IfOk result (λ r. (f : ℕ → ℕ) → ((k : ℕ) → f k < 2 ^ 8) → CanChoose gates.old.nodes.keys gates.new.nodes.keys (λ w. HoldsBytes w r f)) }
 {

@@ -3,3 +3,4 @@ pub mod Fields
 pub mod Numbers
 pub mod Sources
 pub mod Results
+pub mod Terms

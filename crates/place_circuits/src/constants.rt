@@ -5,6 +5,7 @@ ghost use Rattle.circuit.specs.Prelude.{word_value, word_reach_below, AllAgree, 
 ghost use Rattle.place_circuits.specs.Places.{HoldsPlaces, PlacesOwned};
 ghost use Rattle.rule_body.specs.Prelude.{hole_value};
 ghost use Rattle.place_circuits.specs.Numbers.{IsNumber, number_value};
+ghost use Rattle.place_circuits.specs.Terms.{filled_term, number_term};
 
 use crate::places::Places;
 use circuit::{Gates, Lit};
@@ -23,6 +24,7 @@ pub enum Number {
 pub fn filled(gates: &mut Gates, hole: Hole, c: [Lit; 32]) -> Result<[Lit; 32], NoMemory>
     requires c_owned { word_reach_below 32 c ≤ length gates.old.nodes.keys }
     ensures later { IsLater gates.old.nodes.keys gates.new.nodes.keys }
+    ensures makes { IfOk result (λ r. record { word = r; held = gates.new.nodes.keys } ≡ filled_term ⟦<Gates as Alg>⟧.ops hole c gates.old.nodes.keys) }
     ensures owned { IfOk result (λ r. word_reach_below 32 r ≤ length gates.new.nodes.keys) }
     ensures means { IfOk result (λ r. (w : ℕ → Bool) (n : ℕ) → AllAgree gates.new.nodes.keys w → word_value 32 c w ≡ n → word_value 32 r w ≡ hole_value hole (n % 2 ^ 16)) }
 {
@@ -60,6 +62,7 @@ pub fn read_number(
     requires number { IsNumber number }
     requires places_owned { PlacesOwned (length gates.old.nodes.keys) places.now }
     ensures later { IsLater gates.old.nodes.keys gates.new.nodes.keys }
+    ensures makes { IfOk result (λ r. record { word = r; held = gates.new.nodes.keys } ≡ number_term ⟦<Gates as Alg>⟧.ops number places.now gates.old.nodes.keys) }
     ensures owned { IfOk result (λ r. word_reach_below 32 r ≤ length gates.new.nodes.keys) }
     ensures means { IfOk result (λ r. (w : ℕ → Bool) (t : ℕ → ℕ) → AllAgree gates.new.nodes.keys w → HoldsPlaces w places.now t → word_value 32 r w ≡ number_value number t) }
 {

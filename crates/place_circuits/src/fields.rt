@@ -4,6 +4,7 @@ ghost use Rattle.std.specs.Prelude.{◌≡◌, ◌≤◌, ℕ, Bool, IfOk, lengt
 ghost use Rattle.circuit.specs.Prelude.{word_value, word_reach_below, AllAgree, IsLater};
 ghost use Rattle.place_circuits.specs.Places.{HoldsPlaces, PlacesOwned};
 ghost use Rattle.place_circuits.specs.Fields.{IsField, field_value};
+ghost use Rattle.place_circuits.specs.Terms.{field_term};
 
 use crate::places::Places;
 use circuit::{Gates, Lit};
@@ -23,6 +24,7 @@ pub fn read_field(gates: &mut Gates, field: Field, places: &Places) -> Result<[L
     requires field { IsField field }
     requires places_owned { PlacesOwned (length gates.old.nodes.keys) places.now }
     ensures later { IsLater gates.old.nodes.keys gates.new.nodes.keys }
+    ensures makes { IfOk result (λ r. record { word = r; held = gates.new.nodes.keys } ≡ field_term ⟦<Gates as Alg>⟧.ops field places.now gates.old.nodes.keys) }
     ensures owned { IfOk result (λ r. word_reach_below 32 r ≤ length gates.new.nodes.keys) }
     ensures means { IfOk result (λ r. (w : ℕ → Bool) (t : ℕ → ℕ) → AllAgree gates.new.nodes.keys w → HoldsPlaces w places.now t → word_value 32 r w ≡ field_value field t) }
 {

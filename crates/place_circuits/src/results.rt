@@ -5,6 +5,7 @@ ghost use Rattle.circuit.specs.Prelude.{word_value, word_reach_below};
 ghost use Rattle.place_circuits.specs.Places.{HoldsPlaces, PlacesOwned};
 ghost use Rattle.place_circuits.specs.Sources.{AreBytes};
 ghost use Rattle.place_circuits.specs.Results.{AreResults, with_lowest, with_bytes, put_values};
+ghost use Rattle.place_circuits.specs.Terms.{replaced_term, bytes_put_term, results_term};
 
 use crate::places::Places;
 use crate::sources::Address;
@@ -29,6 +30,7 @@ fn lowest_replaced(gates: &mut Gates, width: u8, x: [Lit; 32], old: [Lit; 32]) -
     requires x_owned { word_reach_below 32 x ≤ length gates.old.nodes.keys }
     requires old_owned { word_reach_below 32 old ≤ length gates.old.nodes.keys }
     ensures same { gates.new ≡ gates.old }
+    ensures makes { result ≡ replaced_term ⟦<Gates as Alg>⟧.ops width x old }
     ensures owned { word_reach_below 32 result ≤ length gates.new.nodes.keys }
     ensures means { (w : ℕ → Bool) (n m : ℕ) → word_value 32 x w ≡ n → word_value 32 old w ≡ m → word_value 32 result w ≡ with_lowest width n m }
 {
@@ -51,6 +53,7 @@ fn put_bytes(gates: &mut Gates, first: u8, width: u8, x: [Lit; 32], places: &mut
     requires x_owned { word_reach_below 32 x ≤ length gates.old.nodes.keys }
     requires places_owned { PlacesOwned (length gates.old.nodes.keys) places.old }
     ensures same { gates.new ≡ gates.old }
+    ensures makes { places.new ≡ bytes_put_term ⟦<Gates as Alg>⟧.ops first width x places.old }
     ensures owned { PlacesOwned (length gates.new.nodes.keys) places.new }
     ensures means { (w : ℕ → Bool) (t : ℕ → ℕ) (n : ℕ) → HoldsPlaces w places.old t → word_value 32 x w ≡ n → HoldsPlaces w places.new (with_bytes first width n t) }
 {
@@ -83,6 +86,7 @@ pub fn put_results(
     requires high_owned { word_reach_below 32 high ≤ length gates.old.nodes.keys }
     requires places_owned { PlacesOwned (length gates.old.nodes.keys) places.old }
     ensures same { gates.new ≡ gates.old }
+    ensures makes { places.new ≡ results_term ⟦<Gates as Alg>⟧.ops results x high places.old }
     ensures owned { PlacesOwned (length gates.new.nodes.keys) places.new }
     ensures means { (w : ℕ → Bool) (t : ℕ → ℕ) (n m : ℕ) → HoldsPlaces w places.old t → word_value 32 x w ≡ n → word_value 32 high w ≡ m → HoldsPlaces w places.new (put_values results n m t) }
 {

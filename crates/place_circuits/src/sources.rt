@@ -5,6 +5,7 @@ ghost use Rattle.circuit.specs.Prelude.{word_value, word_reach_below, AllAgree, 
 ghost use Rattle.row_runs.specs.Accesses.{little_number, cut};
 ghost use Rattle.place_circuits.specs.Places.{HoldsPlaces, PlacesOwned};
 ghost use Rattle.place_circuits.specs.Sources.{IsIndex, IsAddress, AreBytes, IsSource, indexed, address_value, source_value};
+ghost use Rattle.place_circuits.specs.Terms.{indexed_term, address_term, lowest_term, joined_term, source_term};
 
 use crate::constants::{Number, read_number};
 use crate::places::Places;
@@ -42,6 +43,7 @@ fn index_sum(
     requires index { IsIndex index }
     requires places_owned { PlacesOwned (length gates.old.nodes.keys) places.now }
     ensures later { IsLater gates.old.nodes.keys gates.new.nodes.keys }
+    ensures makes { IfOk result (λ r. record { word = r; held = gates.new.nodes.keys } ≡ indexed_term ⟦<Gates as Alg>⟧.ops base index places.now gates.old.nodes.keys) }
     ensures owned { IfOk result (λ r. word_reach_below 32 r ≤ length gates.new.nodes.keys) }
     ensures means { IfOk result (λ r. (w : ℕ → Bool) (t : ℕ → ℕ) → AllAgree gates.new.nodes.keys w → HoldsPlaces w places.now t → word_value 32 r w ≡ indexed base index t) }
 {
@@ -67,6 +69,7 @@ pub fn read_address(
     requires address { IsAddress address.now }
     requires places_owned { PlacesOwned (length gates.old.nodes.keys) places.now }
     ensures later { IsLater gates.old.nodes.keys gates.new.nodes.keys }
+    ensures makes { IfOk result (λ r. record { word = r; held = gates.new.nodes.keys } ≡ address_term ⟦<Gates as Alg>⟧.ops address.now places.now gates.old.nodes.keys) }
     ensures owned { IfOk result (λ r. word_reach_below 32 r ≤ length gates.new.nodes.keys) }
     ensures means { IfOk result (λ r. (w : ℕ → Bool) (t : ℕ → ℕ) → AllAgree gates.new.nodes.keys w → HoldsPlaces w places.now t → word_value 32 r w ≡ address_value address.now t) }
 {
@@ -81,6 +84,7 @@ pub fn read_address(
 pub fn lowest(gates: &mut Gates, x: [Lit; 32], width: u8) -> [Lit; 32]
     requires x_owned { word_reach_below 32 x ≤ length gates.old.nodes.keys }
     ensures same { gates.new ≡ gates.old }
+    ensures makes { result ≡ lowest_term ⟦<Gates as Alg>⟧.ops x width }
     ensures owned { word_reach_below 32 result ≤ length gates.new.nodes.keys }
     ensures means { (w : ℕ → Bool) (n : ℕ) → word_value 32 x w ≡ n → word_value 32 result w ≡ cut width n }
 {
@@ -93,6 +97,7 @@ fn joined_bytes(gates: &mut Gates, first: u8, width: u8, places: &Places) -> [Li
     requires bytes { AreBytes first width }
     requires places_owned { PlacesOwned (length gates.old.nodes.keys) places.now }
     ensures same { gates.new ≡ gates.old }
+    ensures makes { result ≡ joined_term ⟦<Gates as Alg>⟧.ops first width places.now }
     ensures owned { word_reach_below 32 result ≤ length gates.new.nodes.keys }
     ensures means { (w : ℕ → Bool) (t : ℕ → ℕ) → HoldsPlaces w places.now t → word_value 32 result w ≡ little_number width (λ k. t (first + k)) }
 {
@@ -119,6 +124,7 @@ pub fn read_source(
     requires source { IsSource source }
     requires places_owned { PlacesOwned (length gates.old.nodes.keys) places.now }
     ensures later { IsLater gates.old.nodes.keys gates.new.nodes.keys }
+    ensures makes { IfOk result (λ r. record { word = r; held = gates.new.nodes.keys } ≡ source_term ⟦<Gates as Alg>⟧.ops source places.now gates.old.nodes.keys) }
     ensures owned { IfOk result (λ r. word_reach_below 32 r ≤ length gates.new.nodes.keys) }
     ensures means { IfOk result (λ r. (w : ℕ → Bool) (t : ℕ → ℕ) → AllAgree gates.new.nodes.keys w → HoldsPlaces w places.now t → word_value 32 r w ≡ source_value source t) }
 {

@@ -1,3 +1,5 @@
 pub mod Running
 pub mod Stored
 pub mod Shown
+pub mod Loaded
+pub mod Lined

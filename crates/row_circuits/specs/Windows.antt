@@ -1,8 +1,12 @@
 -- Rows of a window over places. The guest's places are six general registers, CR, XER, LR and CTR, and constants.
-use Rattle.std.specs.Prelude.{◌≡◌, ◌<◌, ◌≤◌, ℕ, Bool, Option, Some, None}
+use Rattle.std.specs.Prelude.{◌≡◌, ◌<◌, ◌≤◌, ◌==◌, not, if◌then◌else◌, ℕ, Bool, true, Option, Some, None}
 use Rattle.circuit.specs.Prelude.{lit_truth, lit_reach}
 use Rattle.ppc_isa.specs.Legal.{IsLegal}
 use Rattle.ppc_isa.specs.Effect.{GuestValues, Effect}
+use Rattle.ppc_isa.specs.Rows.{guest_row}
+use Rattle.ppc_isa.specs.declared.instr.Instr.{Instr}
+use Rattle.row_runs.specs.Accesses.{big_number}
+use Rattle.row_runs.specs.Oracles.{is_load}
 use Rattle.row_runs.specs.Windows.{Row, WindowRun}
 use Rattle.access_circuits.specs.Lists.{AreAccesses, AccessesOwned}
 use Rattle.place_circuits.specs.Places.{HoldsPlaces, PlacesOwned, with_place}
@@ -26,8 +30,18 @@ abbrev pub IsTarget : Option ℕ → Type 0
 IsTarget None = Unit {0}
 IsTarget (Some p) = p < 64
 
+-- so many bytes are what the instruction loads: 0 exactly where it loads nothing, whatever it reads
+pub record IsLoadWidth (instr : Instr) (width : ℕ) : Type 0 where
+  pub loads : (v : GuestValues) → is_load (guest_row instr v).kind ≡ not (width == 0)
+  pub wide : (v : GuestValues) → is_load (guest_row instr v).kind ≡ true → width ≡ (guest_row instr v).width
+
+-- the number that is loaded where a load finds the bytes, and 0 where nothing is loaded
+abbrev pub loaded_number : ℕ → (ℕ → ℕ) → ℕ
+loaded_number width bytes = if width == 0 then 0 else big_number width bytes
+
 pub record IsWindowRow (row : WindowRow) : Type 0 where
   pub legal : IsLegal row.instr
+  pub width : IsLoadWidth row.instr row.width
   pub a : IsSource row.a
   pub b : IsSource row.b
   pub s : IsSource row.s

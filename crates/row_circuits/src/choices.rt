@@ -5,6 +5,7 @@ ghost use Rattle.circuit.specs.Prelude.{lit_truth, lit_reach, word_value, word_r
 ghost use Rattle.chosen_inputs.specs.Choices.{CanChoose};
 ghost use Rattle.row_runs.specs.Bodies.{Pick};
 ghost use Rattle.row_circuits.specs.Choices.{ShowsPick, ChoiceOwned, left_pick};
+ghost use Rattle.row_circuits.specs.ChoiceTerms.{flag_where_term, word_where_term, choice_term};
 
 use chosen_inputs::{input_flag, input_word};
 use circuit::{Gates, Lit};
@@ -33,6 +34,7 @@ pub struct Choice {
 // A new input where that is asked, else false.
 fn flag_where(gates: &mut Gates, asked: bool) -> Result<Lit, NoMemory>
     ensures later { IsLater gates.old.nodes.keys gates.new.nodes.keys }
+    ensures makes { IfOk result (λ r. record { flag = r; held = gates.new.nodes.keys } ≡ flag_where_term ⟦<Gates as Alg>⟧.ops asked gates.old.nodes.keys) }
     ensures owned { IfOk result (λ r. lit_reach r ≤ length gates.new.nodes.keys) }
     ensures chosen { IfOk result (λ r. (b : Bool) → CanChoose gates.old.nodes.keys gates.new.nodes.keys (λ w. lit_truth r w ≡ (asked && b))) }
 {
@@ -46,6 +48,7 @@ fn flag_where(gates: &mut Gates, asked: bool) -> Result<Lit, NoMemory>
 // A word of new inputs where that is asked, else zero.
 fn word_where(gates: &mut Gates, asked: bool) -> Result<[Lit; 32], NoMemory>
     ensures later { IsLater gates.old.nodes.keys gates.new.nodes.keys }
+    ensures makes { IfOk result (λ r. record { word = r; held = gates.new.nodes.keys } ≡ word_where_term ⟦<Gates as Alg>⟧.ops asked gates.old.nodes.keys) }
     ensures owned { IfOk result (λ r. word_reach_below 32 r ≤ length gates.new.nodes.keys) }
     ensures chosen { IfOk result (λ r. (n : ℕ) → n < 2 ^ 32 → CanChoose gates.old.nodes.keys gates.new.nodes.keys (λ w. word_value 32 r w ≡ (if asked then n else 0))) }
 {
@@ -60,6 +63,7 @@ fn word_where(gates: &mut Gates, asked: bool) -> Result<[Lit; 32], NoMemory>
 /// false. Every choice of the processor can be chosen for them.
 pub fn new_choice(gates: &mut Gates, leaves: Leaves) -> Result<Choice, NoMemory>
     ensures later { IsLater gates.old.nodes.keys gates.new.nodes.keys }
+    ensures makes { IfOk result (λ r. record { choice = r; held = gates.new.nodes.keys } ≡ choice_term ⟦<Gates as Alg>⟧.ops leaves gates.old.nodes.keys) }
     ensures owned { IfOk result (λ r. ChoiceOwned (length gates.new.nodes.keys) r) }
     ensures chosen { IfOk result (λ r. (pick : Pick) → pick.value < 2 ^ 32 → CanChoose gates.old.nodes.keys gates.new.nodes.keys (λ w. ShowsPick w r (left_pick leaves pick))) }
 {

@@ -12,6 +12,7 @@ ghost use Rattle.access_circuits.specs.Lists.{AreAccesses, AccessesOwned};
 ghost use Rattle.place_circuits.specs.Places.{HoldsPlaces, PlacesOwned};
 ghost use Rattle.place_circuits.specs.Results.{AreResults};
 ghost use Rattle.row_circuits.specs.Bodies.{IsOperand, IsBodyLine, operand_read, stored_to, line_of, ShowsBody, BodyOwned};
+ghost use Rattle.row_circuits.specs.BodyTerms.{operand_term, stored_term, body_made, line_made, condition_term};
 
 use crate::choices::{Leaves, new_choice};
 use access_circuits::{AccessWords, big_word, bytes_of, little_word, push_access};
@@ -62,6 +63,7 @@ fn read_operand(
     requires places_owned { PlacesOwned (length gates.old.nodes.keys) places.now }
     requires accesses_owned { AccessesOwned (length gates.old.nodes.keys) accesses.old.items }
     ensures later { IsLater gates.old.nodes.keys gates.new.nodes.keys }
+    ensures makes { IfOk result (λ r. record { word = r; accesses = accesses.new.items; held = gates.new.nodes.keys } ≡ operand_term ⟦<Gates as Alg>⟧.ops operand bytes places.now accesses.old.items gates.old.nodes.keys) }
     ensures owned { IfOk result (λ r. word_reach_below 32 r ≤ length gates.new.nodes.keys) }
     ensures accesses_owned { OnOk result (AccessesOwned (length gates.new.nodes.keys) accesses.new.items) }
     ensures means { IfOk result (λ r. (w : ℕ → Bool) (t f : ℕ → ℕ) → AllAgree gates.new.nodes.keys w → HoldsPlaces w places.now t → HoldsBytes w bytes f → word_value 32 r w ≡ run_operand (always f) (operand_read operand) t) }
@@ -99,6 +101,7 @@ fn push_result(
     requires places_owned { PlacesOwned (length gates.old.nodes.keys) places.now }
     requires accesses_owned { AccessesOwned (length gates.old.nodes.keys) accesses.old.items }
     ensures later { IsLater gates.old.nodes.keys gates.new.nodes.keys }
+    ensures makes { OnOk result (record { accesses = accesses.new.items; held = gates.new.nodes.keys } ≡ stored_term ⟦<Gates as Alg>⟧.ops results x places.now accesses.old.items gates.old.nodes.keys) }
     ensures owned { OnOk result (AccessesOwned (length gates.new.nodes.keys) accesses.new.items) }
     ensures means { OnOk result ((w : ℕ → Bool) (t : ℕ → ℕ) (n : ℕ) (ts : List Accessed) → AllAgree gates.new.nodes.keys w → HoldsPlaces w places.now t → word_value 32 x w ≡ n → AreAccesses w accesses.old.items ts → AreAccesses w accesses.new.items (ts ++ result_accesses (stored_to results) n t)) }
 {
@@ -132,6 +135,7 @@ pub fn one_line(
     requires bytes_owned { BytesOwned (length gates.old.nodes.keys) bytes }
     ensures later { MayUntie gates.old.nodes.keys gates.new.nodes.keys }
     ensures opaque { is_product line.now.op ≡ false → free_count gates.new.nodes.keys ≡ free_count gates.old.nodes.keys }
+    ensures makes { OnOk result (body_made body.new gates.new.nodes.keys ≡ line_made Gates ⟦<Gates as Alg>⟧.ops line.now bytes (body_made body.old gates.old.nodes.keys)) }
     ensures owned { OnOk result (BodyOwned (length gates.new.nodes.keys) body.new) }
     ensures means { OnOk result ((run : BodyRun) (pick : Pick) (f : ℕ → ℕ) → pick.value < 2 ^ 32 → CanChoose gates.old.nodes.keys gates.new.nodes.keys (λ w. AllAgree gates.new.nodes.keys w → ShowsBody w body.old run → HoldsBytes w bytes f → ShowsBody w body.new (host_step (always f) (line_of line.now) pick run))) }
 {
@@ -176,6 +180,7 @@ pub fn condition(gates: &mut Gates, op: &Op, body: &BodyCircuit) -> Result<Lit, 
     requires body_owned { BodyOwned (length gates.old.nodes.keys) body.now }
     ensures later { MayUntie gates.old.nodes.keys gates.new.nodes.keys }
     ensures opaque { is_product op.now ≡ false → free_count gates.new.nodes.keys ≡ free_count gates.old.nodes.keys }
+    ensures makes { IfOk result (λ r. record { flag = r; held = gates.new.nodes.keys } ≡ condition_term Gates ⟦<Gates as Alg>⟧.ops op.now (body_made body.now gates.old.nodes.keys)) }
     ensures owned { IfOk result (λ r. lit_reach r ≤ length gates.new.nodes.keys) }
     ensures means { IfOk result (λ r. (w : ℕ → Bool) (run : BodyRun) → AllAgree gates.new.nodes.keys w → ShowsBody w body.now run → lit_truth r w ≡ condition_holds op.now run) }
 {

@@ -1,5 +1,5 @@
 -- What accesses do to memory, and a memory as the oracle that answers loads. This project's own.
-use Rattle.std.specs.Prelude.{◌≡◌, ◌≤◌, ◌<◌, ◌+◌, ◌%◌, ◌^◌, ℕ, Bool, true, nat_lt, if◌then◌else◌, List, [], ◌∷◌, length, Contains}
+use Rattle.std.specs.Prelude.{◌≡◌, ◌⊎◌, ◌≤◌, ◌<◌, ◌+◌, ◌%◌, ◌^◌, ℕ, Bool, true, nat_lt, if◌then◌else◌, List, [], ◌∷◌, length, Contains}
 use Rattle.std.specs.List.{All, flat_map}
 use Rattle.machines.specs.Prelude.{store_big}
 use Rattle.symbolic_tiles.specs.Prelude.{span}
@@ -24,6 +24,10 @@ behind_accesses (x ∷ xs) bytes = behind_accesses xs (behind_access x bytes)
 abbrev pub seen : ℕ → (ℕ → ℕ) → ℕ → ℕ → ℕ
 seen width memory address k = if nat_lt k width then memory ((address + k) % 2 ^ 32) else 0
 
+-- an oracle answers each load of these with the bytes of a memory
+abbrev pub AreFound : (ℕ → ℕ → ℕ) → (ℕ → ℕ) → List Accessed → Type 0
+AreFound oracle memory accesses = All (λ x. x.loads ≡ true → (k : ℕ) → k < x.width → oracle x.address k ≡ memory ((x.address + k) % 2 ^ 32)) accesses
+
 -- there is one access at most, and a load has so many bytes
 pub record IsOneAccess (width : ℕ) (accesses : List Accessed) : Type 0 where
   pub few : length accesses ≤ 1
@@ -33,3 +37,8 @@ pub record IsOneAccess (width : ℕ) (accesses : List Accessed) : Type 0 where
 pub record AreInside (held writable : ℕ → Bool) (accesses : List Accessed) : Type 0 where
   pub loaded : (a : ℕ) → Contains (flat_map loads_at accesses) a → held a ≡ true
   pub stored : (a : ℕ) → Contains (flat_map stores_at accesses) a → writable a ≡ true
+
+-- no byte that is loaded or stored lies in the home page
+pub record AreAway (area : ℕ) (accesses : List Accessed) : Type 0 where
+  pub loaded : (a : ℕ) → Contains (flat_map loads_at accesses) a → (a < area) ⊎ (area + 4096 ≤ a)
+  pub stored : (a : ℕ) → Contains (flat_map stores_at accesses) a → (a < area) ⊎ (area + 4096 ≤ a)

@@ -15,7 +15,7 @@ is_same x n = by_test (eqb x n) refl
     by_test false e = inr (λ q. grind (arith, nat_tests))
 
 -- with 0 in the place of a base an instruction doesn't depend on GPR 0, which its effect leaves as it is
-zero_row : (i : Instr) → base_field i ≡ Some 0 → (v : GuestValues) (x : ℕ) → guest_row i (record v { a = x }) ≡ record (guest_row i v) { a = x }
+pub zero_row : (i : Instr) → base_field i ≡ Some 0 → (v : GuestValues) (x : ℕ) → guest_row i (record v { a = x }) ≡ record (guest_row i v) { a = x }
 zero_row (Immediate Addi d zero imm) e v x = refl
 zero_row (Immediate Addi d (suc a) imm) e v x = absurd cc
 zero_row (Immediate Addis d zero imm) e v x = refl

@@ -179,11 +179,18 @@ one_window one (g ∷ gs) [] b p q = absurd p
 one_window one (g ∷ gs) (i ∷ a) [] p q = absurd q
 one_window one (g ∷ gs) (i ∷ a) (j ∷ b) p q = ap (λ x. x ∷ a) (one g.word i j p.0.word q.0.word) ∙ ap (λ x. j ∷ x) (one_window one gs a b p.1 q.1)
 
--- the words of a rule at a match name parameters
-pub words_named : ((w : ℕ) → HasOneInstruction w) → (guests : List Guest) (slots : List Bool) (words : List Instr) (map : Map) (m : Match) → IsPlaced guests slots → IsWindow guests words → IsMatch slots words map m → AreNamedWords m (P slots m) (filled_words slots m 0 guests words)
-words_named one guests slots words map m placed window fits =
+-- the words of a rule name parameters, where none in the place of a base is bound to GPR 0
+pub words_named_by : ((w : ℕ) → HasOneInstruction w) → (guests : List Guest) (slots : List Bool) (words : List Instr) (m : Match) → IsPlaced guests slots → IsWindow guests words →
+    ((n : ℕ) (i : Instr) → slice_get words n ≡ Some i → (p : ℕ) → base_field i ≡ Some p → P slots m p → m.gpr p ≢ 0) → AreNamedWords m (P slots m) (filled_words slots m 0 guests words)
+words_named_by one guests slots words m placed window bases =
     let same = one_window one guests placed.window words placed.is.words window.words in
     let count : length slots ≡ highest (flat_map numbers words) = placed.parameters ∙ ap (λ w. highest (flat_map numbers w)) same in
     named_words_of slots m 0 guests words window.words
     (λ k c. par_is slots k (from_one 0 (flat_map numbers words) window.numbered k c) (subst (λ n. k ≤ n) (sym count) (up_to 0 (flat_map numbers words) k c)))
+    bases
+
+-- the words of a rule at a match name parameters
+pub words_named : ((w : ℕ) → HasOneInstruction w) → (guests : List Guest) (slots : List Bool) (words : List Instr) (map : Map) (m : Match) → IsPlaced guests slots → IsWindow guests words → IsMatch slots words map m → AreNamedWords m (P slots m) (filled_words slots m 0 guests words)
+words_named one guests slots words map m placed window fits =
+    words_named_by one guests slots words m placed window
     (λ n i e p f is. subst (λ q. m.gpr q ≢ 0) (place_back slots p is) (fits.bases (p - 1) n i e (place_in slots p is) (f ∙ ap Some (sym (place_back slots p is)))))

@@ -4,3 +4,4 @@ pub mod Starting
 pub mod Running
 pub mod Following
 pub mod Paired
+pub mod Made

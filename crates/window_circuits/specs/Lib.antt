@@ -1,3 +1,4 @@
 pub mod Starts
 pub mod Runs
 pub mod Rules
+pub mod Terms

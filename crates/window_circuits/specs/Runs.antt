@@ -13,7 +13,7 @@ use Rattle.row_circuits.specs.declared.lines.BodyLine.{BodyLine}
 use Rattle.row_circuits.specs.declared.lines.Operand.TheVariants.{Own}
 
 abbrev pub no_row : WindowRow
-no_row = record { instr = Isync; a = Zero; b = Zero; s = Zero; d_to = None; a_to = None }
+no_row = record { instr = Isync; width = 0; a = Zero; b = Zero; s = Zero; d_to = None; a_to = None }
 
 abbrev pub no_line : BodyLine
 no_line = record { op = Ud2; leaves = record { value = true; cf = true; zf = true; sf = true; of = true }; x = Zero; y = Own Zero; results = Nowhere }

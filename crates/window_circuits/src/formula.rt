@@ -15,19 +15,22 @@ ghost use Rattle.row_circuits.specs.Bodies.{IsBodyLine, ShowsBody, BodyOwned};
 ghost use Rattle.window_circuits.specs.Starts.{AreWidths, AreWithin, ArePicks, loaded_bytes, window_begins, body_begins};
 ghost use Rattle.window_circuits.specs.Runs.{row_at, line_at};
 ghost use Rattle.window_circuits.specs.Rules.{IsEnd, IsTake, IsSoundFor, IsSoundOver};
+ghost use Rattle.row_circuits.specs.WindowTerms.{window_made};
+ghost use Rattle.row_circuits.specs.BodyTerms.{body_made};
+ghost use Rattle.window_circuits.specs.Terms.{run_term, rule_made, IsFormulaOf};
 
 use crate::inputs::input_places;
 use crate::loops::{all_lines, all_rows};
 use crate::pairs::{End, push_pairs};
 use crate::starts::{body_start, start_bytes, window_start};
 use chosen_inputs::formula_of_pairs;
-use circuit::{Gates, inputs_extend};
+use circuit::{Gates, Node, inputs_extend};
 use ia_codec::Op;
 use place_circuits::Field;
 use row_circuits::{BodyCircuit, BodyLine, WindowCircuit, WindowRow};
 use row_runs::same_accesses_load_alike;
 use std::alloc::Global;
-use word_kit::{Formula, NoMemory};
+use word_kit::{Alg, Formula, NoMemory};
 
 // Where a window and a body end.
 #[derive(Drop)]
@@ -49,6 +52,7 @@ fn run_both(
     requires lines { All IsBodyLine lines.now }
     requires widths { AreWidths widths }
     requires homes { All IsField homes }
+    ensures makes { IfOk result (λ r. record { window = window_made r.window gates.new.nodes.keys; body = body_made r.body gates.new.nodes.keys } ≡ run_term ⟦<Gates as Alg>⟧.ops rows.now lines.now widths homes gates.old.nodes.keys) }
     ensures window_owned { IfOk result (λ r. WindowOwned (length gates.new.nodes.keys) r.window) }
     ensures body_owned { IfOk result (λ r. BodyOwned (length gates.new.nodes.keys) r.body) }
     ensures chosen { IfOk result (λ r. (t : ℕ → ℕ) (picks : ℕ → Pick) → AreWithin widths t → ArePicks picks → CanChoose gates.old.nodes.keys gates.new.nodes.keys (λ w. AllAgree gates.new.nodes.keys w → ShowsWindow w r.window (guest_steps (length rows.now) (always (loaded_bytes t)) (row_at rows.now) (window_begins t)) × ShowsBody w r.body (host_steps (length lines.now) (always (loaded_bytes t)) (line_at lines.now) picks (body_begins homes t)))) }
@@ -64,6 +68,7 @@ fn run_both(
 
 /// The formula that says that, of some inputs and some choices of the processor, a window and a body differ in a place that is
 /// asked for, in an access, or in the branch. Where the accesses differ in number, way or width it has no clause.
+/// It is exactly that of the gates of the new inputs, the rows, the lines, the branch's condition and the pairs, in this order.
 ///
 /// `widths` are the inputs' bits by place, `homes` the bits of inputs that the home page's bytes from 128 on hold at the start,
 /// `take` an op whose condition is the branch's.
@@ -82,6 +87,7 @@ pub fn formula_of(
     requires widths { AreWidths widths }
     requires homes { All IsField homes }
     requires ends { All IsEnd ends.now }
+    ensures makes { IfOk result (λ f. IsFormulaOf (rule_made ⟦<Node as PartialEq>⟧.eq rows.now lines.now take.now widths homes ends.now) f) }
     ensures formula { IfOk result (λ f. IsFormula f) }
     ensures sound { IfOk result (λ f. ¬ IsSatisfiable f.clauses → IsSoundFor rows.now lines.now take.now widths homes ends.now) }
     ensures memory { IfOk result (λ f. ¬ IsSatisfiable f.clauses → IsSoundOver rows.now lines.now take.now widths homes ends.now) }

@@ -6,6 +6,7 @@ ghost use Rattle.chosen_inputs.specs.Choices.{CanChoose};
 ghost use Rattle.chosen_inputs.specs.Inputs.{with_inputs, word_of_inputs};
 ghost use Rattle.place_circuits.specs.Places.{HoldsPlaces, PlacesOwned};
 ghost use Rattle.window_circuits.specs.Starts.{AreWidths, AreWithin, bits_before};
+ghost use Rattle.window_circuits.specs.Terms.{inputs_term};
 
 use chosen_inputs::input_word;
 use circuit::Gates;
@@ -17,6 +18,7 @@ use word_kit::{Alg, NoMemory};
 pub fn input_places(gates: &mut Gates, widths: [u8; 64]) -> Result<Places, NoMemory>
     requires widths { AreWidths widths }
     ensures later { IsLater gates.old.nodes.keys gates.new.nodes.keys }
+    ensures makes { IfOk result (λ r. record { places = r; held = gates.new.nodes.keys } ≡ inputs_term widths gates.old.nodes.keys) }
     ensures owned { IfOk result (λ r. PlacesOwned (length gates.new.nodes.keys) r) }
     ensures made { IfOk result (λ r. (k : ℕ) → k < 64 → slice_index_or r.words k [] ≡ word_of_inputs (length gates.old.nodes.keys + bits_before k widths) (slice_index_or widths k 0)) }
     ensures held { OnOk result (gates.new.nodes.keys ≡ with_inputs (bits_before 64 widths) gates.old.nodes.keys) }

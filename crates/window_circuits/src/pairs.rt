@@ -1,6 +1,6 @@
 //! What is to be the same at the end of a window and of a body.
 
-ghost use Rattle.std.specs.Prelude.{◌≡◌, ◌≤◌, List, ℕ, Bool, Option, IfOk, OnOk, length};
+ghost use Rattle.std.specs.Prelude.{◌≡◌, ◌≤◌, ◌++◌, List, ℕ, Bool, Option, IfOk, OnOk, length};
 ghost use Rattle.std.specs.List.{All};
 ghost use Rattle.circuit.specs.Prelude.{lit_truth, lit_reach, AllAgree, IsLater, MayUntie, AreOwned};
 ghost use Rattle.chosen_inputs.specs.Pairs.{AreAlike};
@@ -12,6 +12,9 @@ ghost use Rattle.place_circuits.specs.Places.{HoldsPlaces, PlacesOwned};
 ghost use Rattle.row_circuits.specs.Windows.{ShowsWindow, WindowOwned};
 ghost use Rattle.row_circuits.specs.Bodies.{ShowsBody, BodyOwned};
 ghost use Rattle.window_circuits.specs.Rules.{IsEnd, IsTake, IsTaken, EndAlike, Follows};
+ghost use Rattle.row_circuits.specs.WindowTerms.{window_made};
+ghost use Rattle.row_circuits.specs.BodyTerms.{body_made};
+ghost use Rattle.window_circuits.specs.Terms.{taken_term, ends_term, accesses_paired, pairs_term};
 
 use access_circuits::{AccessWords, pair_accesses};
 use chosen_inputs::{push_flag, push_word};
@@ -19,7 +22,7 @@ use circuit::{Gates, Lit};
 use ia_codec::Op;
 use place_circuits::{Field, Places, read_field};
 use row_circuits::{BodyCircuit, WindowCircuit, condition};
-use word_kit::NoMemory;
+use word_kit::{Alg, NoMemory};
 
 /// Bits of a place of the window, and the place of the body that is to hold the number that they are.
 #[derive(Clone, Copy)]
@@ -41,6 +44,7 @@ fn push_taken(
     requires body_owned { BodyOwned (length gates.old.nodes.keys) body.now }
     requires pairs_owned { AreOwned (length gates.old.nodes.keys) pairs.old.items }
     ensures later { MayUntie gates.old.nodes.keys gates.new.nodes.keys }
+    ensures makes { OnOk result (record { pairs = pairs.new.items; held = gates.new.nodes.keys } ≡ taken_term ⟦<Gates as Alg>⟧.ops take.now window.now.taken (body_made body.now gates.old.nodes.keys) pairs.old.items) }
     ensures owned { OnOk result (AreOwned (length gates.new.nodes.keys) pairs.new.items) }
     ensures alike { OnOk result ((w : ℕ → Bool) (g : WindowRun) (h : BodyRun) → AllAgree gates.new.nodes.keys w → ShowsWindow w window.now g → ShowsBody w body.now h → AreAlike w pairs.new.items → AreAlike w pairs.old.items × IsTaken take.now g h) }
 {
@@ -65,6 +69,7 @@ fn push_ends(
     requires body_owned { PlacesOwned (length gates.old.nodes.keys) body.now }
     requires pairs_owned { AreOwned (length gates.old.nodes.keys) pairs.old.items }
     ensures later { IsLater gates.old.nodes.keys gates.new.nodes.keys }
+    ensures makes { OnOk result (record { pairs = pairs.new.items; held = gates.new.nodes.keys } ≡ ends_term ⟦<Gates as Alg>⟧.ops (length ends.now) ends.now window.now body.now (record { pairs = pairs.old.items; held = gates.old.nodes.keys })) }
     ensures owned { OnOk result (AreOwned (length gates.new.nodes.keys) pairs.new.items) }
     ensures alike { OnOk result ((w : ℕ → Bool) (t u : ℕ → ℕ) → AllAgree gates.new.nodes.keys w → HoldsPlaces w window.now t → HoldsPlaces w body.now u → AreAlike w pairs.new.items → AreAlike w pairs.old.items × EndAlike ends.now t u) }
 {
@@ -82,6 +87,7 @@ fn push_accesses(
     window: &[AccessWords],
     body: &[AccessWords],
 ) -> Result<(), NoMemory>
+    ensures pushed { OnOk result (pairs.new.items ≡ pairs.old.items ++ accesses_paired window.now body.now) }
     ensures owned { OnOk result ((m : ℕ) → AreOwned m pairs.old.items → AccessesOwned m window.now → AccessesOwned m body.now → AreOwned m pairs.new.items) }
     ensures alike { OnOk result ((w : ℕ → Bool) (ts us : List Accessed) → AreAccesses w window.now ts → AreAccesses w body.now us → AreAlike w pairs.new.items → AreAlike w pairs.old.items × (ts ≡ us)) }
 {
@@ -109,6 +115,7 @@ pub fn push_pairs(
     requires body_owned { BodyOwned (length gates.old.nodes.keys) body.now }
     requires pairs_owned { AreOwned (length gates.old.nodes.keys) pairs.old.items }
     ensures later { MayUntie gates.old.nodes.keys gates.new.nodes.keys }
+    ensures makes { OnOk result (record { pairs = pairs.new.items; held = gates.new.nodes.keys } ≡ pairs_term ⟦<Gates as Alg>⟧.ops take.now ends.now (window_made window.now gates.old.nodes.keys) (body_made body.now gates.old.nodes.keys) pairs.old.items) }
     ensures owned { OnOk result (AreOwned (length gates.new.nodes.keys) pairs.new.items) }
     ensures alike { OnOk result ((w : ℕ → Bool) (g : WindowRun) (h : BodyRun) → AllAgree gates.new.nodes.keys w → ShowsWindow w window.now g → ShowsBody w body.now h → AreAlike w pairs.new.items → Follows ends.now take.now g h) }
 {

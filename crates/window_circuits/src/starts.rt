@@ -9,6 +9,9 @@ ghost use Rattle.place_circuits.specs.Fields.{IsField};
 ghost use Rattle.row_circuits.specs.Windows.{ShowsWindow, WindowOwned};
 ghost use Rattle.row_circuits.specs.Bodies.{ShowsBody, BodyOwned};
 ghost use Rattle.window_circuits.specs.Starts.{xer_of, loaded_bytes, window_begins, with_homes, body_begins};
+ghost use Rattle.row_circuits.specs.WindowTerms.{window_made};
+ghost use Rattle.row_circuits.specs.BodyTerms.{body_made};
+ghost use Rattle.window_circuits.specs.Terms.{xer_term, window_start_term, homes_term, body_start_term, start_bytes_term};
 
 use circuit::{Gates, Lit};
 use place_circuits::{Field, Places, read_field};
@@ -19,6 +22,7 @@ use word_kit::{Alg, NoMemory};
 fn whole_xer(gates: &mut Gates, inputs: &Places) -> [Lit; 32]
     requires inputs_owned { PlacesOwned (length gates.old.nodes.keys) inputs.now }
     ensures same { gates.new ≡ gates.old }
+    ensures makes { result ≡ xer_term ⟦<Gates as Alg>⟧.ops inputs.now }
     ensures owned { word_reach_below 32 result ≤ length gates.new.nodes.keys }
     ensures means { (w : ℕ → Bool) (t : ℕ → ℕ) → HoldsPlaces w inputs.now t → word_value 32 result w ≡ xer_of t }
 {
@@ -35,6 +39,7 @@ fn whole_xer(gates: &mut Gates, inputs: &Places) -> [Lit; 32]
 pub fn window_start(alloc: Global, gates: &mut Gates, inputs: &Places) -> WindowCircuit
     requires inputs_owned { PlacesOwned (length gates.old.nodes.keys) inputs.now }
     ensures same { gates.new ≡ gates.old }
+    ensures makes { window_made result gates.new.nodes.keys ≡ window_start_term ⟦<Gates as Alg>⟧.ops inputs.now gates.old.nodes.keys }
     ensures owned { WindowOwned (length gates.new.nodes.keys) result }
     ensures means { (w : ℕ → Bool) (t : ℕ → ℕ) → HoldsPlaces w inputs.now t → ShowsWindow w result (window_begins t) }
 {
@@ -54,6 +59,7 @@ fn host_places(gates: &mut Gates, homes: [Field; 20], inputs: &Places) -> Result
     requires homes { All IsField homes }
     requires inputs_owned { PlacesOwned (length gates.old.nodes.keys) inputs.now }
     ensures later { IsLater gates.old.nodes.keys gates.new.nodes.keys }
+    ensures makes { IfOk result (λ r. record { places = r; held = gates.new.nodes.keys } ≡ homes_term ⟦<Gates as Alg>⟧.ops 20 homes inputs.now gates.old.nodes.keys) }
     ensures owned { IfOk result (λ r. PlacesOwned (length gates.new.nodes.keys) r) }
     ensures means { IfOk result (λ r. (w : ℕ → Bool) (t : ℕ → ℕ) → AllAgree gates.new.nodes.keys w → HoldsPlaces w inputs.now t → HoldsPlaces w r (with_homes 20 homes t)) }
 {
@@ -76,6 +82,7 @@ pub fn body_start(
     requires homes { All IsField homes }
     requires inputs_owned { PlacesOwned (length gates.old.nodes.keys) inputs.now }
     ensures later { IsLater gates.old.nodes.keys gates.new.nodes.keys }
+    ensures makes { IfOk result (λ r. body_made r gates.new.nodes.keys ≡ body_start_term ⟦<Gates as Alg>⟧.ops homes inputs.now gates.old.nodes.keys) }
     ensures owned { IfOk result (λ r. BodyOwned (length gates.new.nodes.keys) r) }
     ensures means { IfOk result (λ r. (w : ℕ → Bool) (t : ℕ → ℕ) → AllAgree gates.new.nodes.keys w → HoldsPlaces w inputs.now t → ShowsBody w r (body_begins homes t)) }
 {
@@ -96,6 +103,7 @@ pub fn body_start(
 
 /// The bytes that a load finds.
 pub fn start_bytes(inputs: &Places) -> [[Lit; 32]; 4]
+    ensures makes { result ≡ start_bytes_term inputs.now }
     ensures owned { (m : ℕ) → PlacesOwned m inputs.now → BytesOwned m result }
     ensures means { (w : ℕ → Bool) (t : ℕ → ℕ) → HoldsPlaces w inputs.now t → HoldsBytes w result (loaded_bytes t) }
 {

@@ -3,8 +3,17 @@ use Rattle.circuit.specs.Prelude.{AllAgree, IsInput}
 use Rattle.chosen_inputs.specs.Choices.{later, chosen_map, chosen_behind}
 use Rattle.ia_codec.specs.Prelude.{host_row}
 use Rattle.row_circuits.specs.Choices.{left_pick}
+use Rattle.row_circuits.specs.BodyTerms.{body_made}
 use Rattle.row_circuits.proofs.Shown.{values_shown}
+use Rattle.row_circuits.proofs.Lined.{line_makes}
 use Rattle.row_circuits.proofs.lines.one_line.Goals as goal
+
+pub returns-clause-makes : goal.returns-clause-makes
+returns-clause-makes c =
+    let e = c.in_ok-e.e in
+    ap (λ s. record { places = c.put_results.new.places; cf = e.cf; zf = e.zf; sf = e.sf; of = e.of; accesses = c.push_result.new.accesses.items; held = s.nodes.keys }) c.put_results.ensures.same
+    ∙ line_makes _ _ c.args.line.now c.args.bytes (body_made c.args.body.now c.args.gates.now.nodes.keys) _ _ _ _ _ _
+    c.in_ok-x.ensures.makes c.in_ok-y.ensures.makes c.in_ok-choice.ensures.makes c.in_ok-e.ensures.makes c.in_ok-push_result.ensures.makes c.put_results.ensures.makes
 
 pub returns-clause-means : goal.returns-clause-means
 returns-clause-means c = λ run pick f h.

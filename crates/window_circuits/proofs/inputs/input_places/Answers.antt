@@ -3,6 +3,8 @@ use Rattle.circuit.specs.Prelude.{word_value, word_reach_below, AllAgree, IsInpu
 use Rattle.chosen_inputs.specs.Choices.{both, chosen_map, chosen_none_at}
 use Rattle.chosen_inputs.specs.Inputs.{with_inputs, word_of_inputs}
 use Rattle.window_circuits.specs.Starts.{bits_before}
+use Rattle.window_circuits.specs.Terms.{input_word_at}
+use Rattle.window_circuits.proofs.Made.{words_are, placed_same}
 use Rattle.window_circuits.proofs.Putting.{put_step}
 use Rattle.window_circuits.proofs.Ordered.{inputs_begin, inputs_length, inputs_go_on}
 use Rattle.window_circuits.proofs.inputs.input_places.Goals as goal
@@ -54,3 +56,9 @@ returns-clause-made c = λ k l. c.loop-i.invariant.made k (omega arith)
 pub returns-clause-held : goal.returns-clause-held
 returns-clause-held c = let e : c.loop-i.i ≡ 64 = omega arith in
     subst (λ n. c.loop-i.gates.nodes.keys ≡ with_inputs (bits_before n c.args.widths) c.args.gates.now.nodes.keys) e c.loop-i.invariant.held
+
+pub returns-clause-makes : goal.returns-clause-makes
+returns-clause-makes c =
+    let e : c.loop-i.i ≡ 64 = omega arith in
+    placed_same c.loop-i.words _ c.loop-i.gates.nodes.keys _ (words_are c.loop-i.words (input_word_at c.args.widths c.args.gates.now.nodes.keys) 64 c.loop-i.invariant.wide (λ k l. c.loop-i.invariant.made k (omega arith)))
+    (subst (λ n. c.loop-i.gates.nodes.keys ≡ with_inputs (bits_before n c.args.widths) c.args.gates.now.nodes.keys) e c.loop-i.invariant.held)

@@ -8,10 +8,12 @@ use Rattle.row_circuits.specs.Bodies.{ShowsBody}
 use Rattle.window_circuits.specs.Starts.{ArePicks}
 use Rattle.window_circuits.specs.Runs.{line_at}
 use Rattle.window_circuits.proofs.Running.{bytes_later, untie-refl, untie-trans, host_none, host_one_more}
+use Rattle.window_circuits.proofs.Made.{lines_made_none, lines_made_more}
 use Rattle.window_circuits.proofs.loops.all_lines.Goals as goal
 
 pub loop-i-init : goal.loop-i-init
 loop-i-init c = record {
+  made = lines_made_none _ c.args.lines.now c.args.bytes _;
   later = untie-refl _;
   owned = c.requires.body_owned;
   bytes_owned = c.requires.bytes_owned;
@@ -27,6 +29,7 @@ loop-i-preserved c =
     let p = c.loop-i.invariant.later in
     let q = c.in_ok-one_line.ensures.later in
     record {
+      made = lines_made_more _ i c.args.lines.now _ c.args.bytes _ _ _ (omega arith) c.loop-i.invariant.made c.in_ok-one_line.ensures.makes;
       later = untie-trans k0 k1 k2 p q;
       owned = c.in_ok-one_line.ensures.owned;
       bytes_owned = bytes_later _ _ _ q.grows c.loop-i.invariant.bytes_owned;

@@ -1,4 +1,4 @@
-use Rattle.std.proofs.Common.{ℕ, length}
+use Rattle.std.proofs.Common.{◌≡◌, ℕ, length}
 use Rattle.circuit.specs.Prelude.{AllAgree, MayUntie}
 use Rattle.chosen_inputs.specs.Choices.{CanChoose}
 use Rattle.access_circuits.specs.Bytes.{HoldsBytes, BytesOwned}
@@ -7,10 +7,14 @@ use Rattle.row_runs.specs.Bodies.{BodyRun, Pick, host_steps}
 use Rattle.row_circuits.specs.Bodies.{ShowsBody, BodyOwned}
 use Rattle.window_circuits.specs.Starts.{ArePicks}
 use Rattle.window_circuits.specs.Runs.{line_at}
+use Rattle.circuit.specs.contracts.algebra.GatesAlg.TheImpl.{ghosts}
+use Rattle.row_circuits.specs.BodyTerms.{body_made}
+use Rattle.window_circuits.specs.Terms.{lines_made}
 use Rattle.window_circuits.proofs.loops.all_lines.Given as goal
 
 abbrev pub invariant-loop-i : goal.invariant-loop-i
 invariant-loop-i l = record {
+  made : body_made l.body l.gates.nodes.keys ≡ lines_made ghosts.ops l.i l.lines l.bytes (body_made l.fn.body l.fn.gates.nodes.keys);
   later : MayUntie l.fn.gates.nodes.keys l.gates.nodes.keys;
   owned : BodyOwned (length l.gates.nodes.keys) l.body;
   bytes_owned : BytesOwned (length l.gates.nodes.keys) l.bytes;

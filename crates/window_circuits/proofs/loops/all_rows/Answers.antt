@@ -6,10 +6,12 @@ use Rattle.row_runs.specs.Windows.{WindowRun, guest_steps}
 use Rattle.row_circuits.specs.Windows.{ShowsWindow}
 use Rattle.window_circuits.specs.Runs.{row_at}
 use Rattle.window_circuits.proofs.Running.{bytes_later, untie-refl, untie-trans, guest_none, guest_one_more}
+use Rattle.window_circuits.proofs.Made.{rows_made_none, rows_made_more}
 use Rattle.window_circuits.proofs.loops.all_rows.Goals as goal
 
 pub loop-i-init : goal.loop-i-init
 loop-i-init c = record {
+  made = rows_made_none _ c.args.rows.now c.args.bytes _;
   later = untie-refl _;
   owned = c.requires.window_owned;
   bytes_owned = c.requires.bytes_owned;
@@ -18,6 +20,7 @@ loop-i-init c = record {
 
 pub loop-i-preserved : goal.loop-i-preserved
 loop-i-preserved c = record {
+  made = rows_made_more _ c.loop-i.i c.args.rows.now _ c.args.bytes _ _ _ (omega arith) c.loop-i.invariant.made c.in_ok-one_row.ensures.makes;
   later = untie-trans _ _ _ c.loop-i.invariant.later c.in_ok-one_row.ensures.later;
   owned = c.in_ok-one_row.ensures.owned;
   bytes_owned = bytes_later _ _ _ c.in_ok-one_row.ensures.later.grows c.loop-i.invariant.bytes_owned;

@@ -5,10 +5,12 @@ use Rattle.place_circuits.specs.Fields.{field_value}
 use Rattle.window_circuits.specs.Rules.{IsEnd, no_end}
 use Rattle.window_circuits.proofs.Starting.{places_later, one_more}
 use Rattle.window_circuits.proofs.Paired.{owned_later}
+use Rattle.window_circuits.proofs.Made.{ends_made_none, ends_made_more}
 use Rattle.window_circuits.proofs.pairs.push_ends.Goals as goal
 
 pub loop-i-init : goal.loop-i-init
 loop-i-init c = record {
+  made = ends_made_none _ c.args.ends.now c.args.window.now c.args.body.now _;
   later = record { grows = omega arith; earlier = λ v h. h; inputs = λ k h. h; opaque = refl };
   window_owned = c.requires.window_owned;
   body_owned = c.requires.body_owned;
@@ -27,6 +29,7 @@ loop-i-preserved c =
     let body_owned = places_later _ _ _ q.grows c.loop-i.invariant.body_owned in
     let same = get_or_default ends i no_end _ inside in
     record {
+      made = ends_made_more _ i ends _ c.args.window.now c.args.body.now _ c.loop-i.pairs.items c.loop-i.gates.nodes.keys _ _ inside c.loop-i.invariant.made c.in_ok-from.ensures.makes c.in_ok-push_word.ensures.pushed;
       later = record { grows = omega (arith, p.grows, q.grows); earlier = λ v h. p.earlier v (q.earlier v h); inputs = λ k h. q.inputs k (p.inputs k h); opaque = q.opaque ∙ p.opaque };
       window_owned = places_later _ _ _ q.grows c.loop-i.invariant.window_owned;
       body_owned = body_owned;

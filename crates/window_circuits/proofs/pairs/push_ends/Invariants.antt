@@ -4,10 +4,13 @@ use Rattle.chosen_inputs.specs.Pairs.{AreAlike}
 use Rattle.place_circuits.specs.Places.{HoldsPlaces, PlacesOwned}
 use Rattle.place_circuits.specs.Fields.{field_value}
 use Rattle.window_circuits.specs.Rules.{no_end}
+use Rattle.circuit.specs.contracts.algebra.GatesAlg.TheImpl.{ghosts}
+use Rattle.window_circuits.specs.Terms.{ends_term}
 use Rattle.window_circuits.proofs.pairs.push_ends.Given as goal
 
 abbrev pub invariant-loop-i : goal.invariant-loop-i
 invariant-loop-i l = record {
+  made : record { pairs = l.pairs.items; held = l.gates.nodes.keys } ≡ ends_term ghosts.ops l.i l.ends l.window l.body (record { pairs = l.fn.pairs.items; held = l.fn.gates.nodes.keys });
   later : IsLater l.fn.gates.nodes.keys l.gates.nodes.keys;
   window_owned : PlacesOwned (length l.gates.nodes.keys) l.window;
   body_owned : PlacesOwned (length l.gates.nodes.keys) l.body;

@@ -1,0 +1,10 @@
+mod Numbers
+mod Memories
+mod Loads
+mod Frames
+mod Places
+mod Starting
+mod Ending
+mod Whole
+mod Standing
+mod Which

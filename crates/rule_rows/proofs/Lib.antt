@@ -1,0 +1,9 @@
+pub mod Values
+pub mod Moved
+pub mod Parameters
+pub mod Puts
+pub mod Reach
+pub mod Doing
+pub mod Step
+pub mod Run
+pub mod Listed
