@@ -1,0 +1,6 @@
+mod Below
+mod Certified
+mod Never
+mod Shapes
+mod Verified
+mod Walks
