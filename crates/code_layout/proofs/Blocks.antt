@@ -1,16 +1,21 @@
 -- What a loop over a program's blocks needs of them.
-use Rattle.std.proofs.Common.{◌≡◌, ◌≢◌, ◌≤◌, ◌<◌, ◌+◌, ◌-◌, ℕ, suc, inl, inr, List, [], ◌∷◌, All, length, set, slice_index, take, drop, Option, None, sym, ap, ◌∙◌, arith}
+use Rattle.std.proofs.Common.{◌≡◌, ◌≢◌, ◌≤◌, ◌<◌, ◌+◌, ℕ, suc, inl, inr, true, false, List, [], ◌∷◌, All, length, get_or, set, slice_index, take, drop, Option, None, sym, ap, ◌∙◌, arith}
 use Rattle.std.specs.List.{sum_by}
 use Rattle.std.proofs.lemmas.Bool.{cases_lt}
-use Rattle.std.proofs.lemmas.List.{take_more, get_or-set_same, get_or-set_other, length-take, length-drop}
+use Rattle.std.proofs.lemmas.List.{take_more, get_or-map, get_or-set_same, get_or-set_other, length-take, length-drop}
 use Rattle.std.proofs.lemmas.List.Elements.{All-take, All-drop, All-from_get_or}
-use Rattle.std.proofs.lemmas.List.Sums.{sum_by-append, sum_by-cons, sum_by_push, sum_by-take-le, sum_by_more_le}
+use Rattle.std.specs.List.{position_or_len}
+use Rattle.std.specs.Prelude.{◌==◌, slice_index_or}
+use Rattle.std.proofs.lemmas.Bool.Decides.{nat_tests}
+use Rattle.std.proofs.lemmas.List.Sums.{position_or_len_is, sum_by-append, sum_by-cons, sum_by_push, sum_by-take-le, sum_by_more_le}
 use Rattle.machines.specs.Prelude.{Instr}
 use Rattle.block_find.specs.Prelude.{address_of, AreBlocksOf, all_blocks, block_at, word_count, IsBlockAt, EachIsBlock, EachBeginsOne, AllHaveFewWords}
 use Rattle.block_find.specs.declared.block.Block.{Block}
 use Rattle.block_find.specs.declared.block.Blocks.{Blocks}
 use Rattle.symbolic_tiles.specs.declared.flow_op.FlowOp.{FlowOp}
-use Rattle.code_layout.specs.Prelude.{AreDecodedAs, IsLegalDecoded, place_of, Moves, no_moves, block_items, words_of, items_of, block_length, stands_at, BeginsAt}
+use Rattle.plan_form.specs.declared.problem.BlockPlan.{BlockPlan}
+use Rattle.plan_form.specs.declared.problem.Step.{Step}
+use Rattle.code_layout.specs.Prelude.{AreDecodedAs, IsLegalDecoded, Laying, no_registers, place_of, Moves, no_moves, block_items, words_of, items_of, block_length, stands_at, steps_in, steps_of, BeginsAt}
 use Rattle.code_layout.proofs.Laid.{all_legal}
 
 abbrev pub nowhere : Block
@@ -24,14 +29,17 @@ no_more (block ∷ blocks) some = let rest = no_more blocks (λ i lt. some (suc 
 pub part_legal : (words : List ℕ) (decoded : List (Option Instr)) (n k : ℕ) → AreDecodedAs words decoded → All IsLegalDecoded (take n (drop k decoded))
 part_legal words decoded n k are = All-take IsLegalDecoded n (drop k decoded) (All-drop IsLegalDecoded k decoded (All-from_get_or IsLegalDecoded decoded None (all_legal words decoded are)))
 
--- a block's items are made of its words
-pub items_are : (first at : ℕ) (decoded words : List (Option Instr)) (block : Block) (items : List FlowOp) → at ≡ block.at → words ≡ words_of first decoded block → items ≡ block_items at words → items ≡ items_of first decoded block
-items_are first at decoded words block items here are made = made ∙ ap (λ (a : ℕ). block_items a words) here ∙ ap (λ (ws : List (Option Instr)). block_items block.at ws) are
+-- a block's items are made of its words, by its plan
+pub items_are : (by : Laying) (at : ℕ) (words : List (Option Instr)) (steps : List Step) (block : Block) (items : List FlowOp) → at ≡ block.at → words ≡ words_of by.first by.decoded block → steps ≡ by.steps block →
+    items ≡ block_items by.live at no_registers words steps → items ≡ items_of by block
+items_are by at words steps block items here are plan made =
+    made ∙ ap (λ (a : ℕ). block_items by.live a no_registers words steps) here ∙ ap (λ (ws : List (Option Instr)). block_items by.live block.at no_registers ws steps) are
+    ∙ ap (λ (xs : List Step). block_items by.live block.at no_registers (words_of by.first by.decoded block) xs) plan
 
-pub stands_more : (first : ℕ) (decoded : List (Option Instr)) (switch : ℕ → Moves) (here i : ℕ) (blocks : List Block) → i < length blocks → stands_at first decoded switch here blocks i + block_length first decoded switch (block_at blocks i) ≡ stands_at first decoded switch here blocks (i + 1)
-stands_more first decoded switch here i blocks lt =
-    let more : sum_by (block_length first decoded switch) (take (i + 1) blocks) ≡ sum_by (block_length first decoded switch) (take i blocks) + block_length first decoded switch (block_at blocks i) =
-    ap (sum_by (block_length first decoded switch)) (take_more blocks i nowhere lt) ∙ sum_by_push (block_length first decoded switch) (take i blocks) (block_at blocks i) in
+pub stands_more : (by : Laying) (switch : ℕ → Moves) (here i : ℕ) (blocks : List Block) → i < length blocks → stands_at by switch here blocks i + block_length by switch (block_at blocks i) ≡ stands_at by switch here blocks (i + 1)
+stands_more by switch here i blocks lt =
+    let more : sum_by (block_length by switch) (take (i + 1) blocks) ≡ sum_by (block_length by switch) (take i blocks) + block_length by switch (block_at blocks i) =
+    ap (sum_by (block_length by switch)) (take_more blocks i nowhere lt) ∙ sum_by_push (block_length by switch) (take i blocks) (block_at blocks i) in
     omega (arith, more)
 
 pub words_more : (i : ℕ) (blocks : List Block) → i < length blocks → sum_by word_count (take i blocks) + word_count (block_at blocks i) ≡ sum_by word_count (take (i + 1) blocks)
@@ -111,9 +119,9 @@ module _ (first entry : ℕ) (words : List ℕ) (blocks : Blocks) (are : AreBloc
     ]
 
     -- so each word's block begins where the table says
-    pub each_begins : (decoded : List (Option Instr)) (start : ℕ) (table : List ℕ) → ((i : ℕ) → i < length all → slice_index table (place i) ≡ stands_at first decoded no_moves start all i) →
-        (k : ℕ) → k < length words → BeginsAt first decoded no_moves start all (address_of first k) (slice_index table k)
-    each_begins decoded start table kept k lt =
+    pub each_begins : (by : Laying) (start : ℕ) (table : List ℕ) → ((i : ℕ) → i < length all → slice_index table (place i) ≡ stands_at by no_moves start all i) →
+        (k : ℕ) → k < length words → BeginsAt by no_moves start all (address_of first k) (slice_index table k)
+    each_begins by start table kept k lt =
         let one = begin first entry words blocks are k lt in
         let at = one.begins in
         let here : place one.place ≡ k = omega (arith, at) in
@@ -123,3 +131,24 @@ module _ (first entry : ℕ) (words : List ℕ) (blocks : Blocks) (are : AreBloc
           begins = one.begins;
           stands = sym (ap (slice_index table) here) ∙ kept one.place one.within;
         }
+
+    -- a block stands among all where it stands
+    stands_among : (i : ℕ) → i < length all → position_or_len (λ other. other.at == (block_at all i).at) all ≡ i
+    stands_among i lt = position_or_len_is (λ other. other.at == (block_at all i).at) all i nowhere (omega (arith, lt)) (λ k less. earlier k less (differs (block_at all k).at (block_at all i).at)) (λ within. itself (block_at all i).at)
+      where
+        itself : (n : ℕ) → (n == n) ≡ true
+        itself n = grind (arith, nat_tests)
+
+        differs : (m n : ℕ) → (m ≢ n) → (m == n) ≡ false
+        differs m n ne = grind (arith, nat_tests)
+
+        earlier : (k : ℕ) → k < i → (((block_at all k).at ≢ (block_at all i).at) → ((block_at all k).at == (block_at all i).at) ≡ false) → ((block_at all k).at == (block_at all i).at) ≡ false
+        earlier k less differ = differ (λ e. (let same : k ≡ i = apart k i (omega arith) lt (ap (place_of first) e) in omega arith))
+
+    -- so its plan is that at its place
+    pub plan_at : (plans : List (List Step)) (i : ℕ) → i < length all → steps_in all plans (block_at all i) ≡ slice_index_or plans i []
+    plan_at plans i lt = ap (λ (k : ℕ). slice_index_or plans k []) (stands_among i lt)
+
+    -- the steps of the plan at its place
+    pub own_steps : (plans : List BlockPlan) (i : ℕ) (d : BlockPlan) → i < length all → i < length plans → (get_or plans i d).plan.steps.items ≡ steps_in all (steps_of plans) (block_at all i)
+    own_steps plans i d lt among = sym (plan_at (steps_of plans) i lt ∙ get_or-map (λ p. p.plan.steps.items) plans i d [] among)

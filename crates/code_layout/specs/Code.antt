@@ -1,11 +1,15 @@
 -- The items of a block, and their bytes. This project's own.
-use Rattle.std.specs.Prelude.{ℕ, ◌+◌, ◌-◌, ◌%◌, ◌^◌, List, [], ◌∷◌, ◌++◌, map, length, Option, None, Some, if◌then◌else◌}
+use Rattle.std.specs.Prelude.{◌≡◌, ℕ, suc, true, ◌+◌, ◌-◌, ◌%◌, ◌^◌, List, [], ◌∷◌, ◌++◌, map as list_map, length, Option, None, Some, if◌then◌else◌}
 use Rattle.ia_codec.specs.Reading.{condition_of_number}
-use Rattle.machines.specs.Prelude.{Instr, spelling, Op, Jcc, Jmp, JmpTo, Base, eax, Condition, NotBelow, Map, behind as next_address}
+use Rattle.machines.specs.Prelude.{Instr, spelling, Op, Jcc, Jmp, JmpTo, Base as BaseOperand, eax, Condition, NotBelow, Map, behind as next_address}
 pub use Rattle.reg_map.specs.Relocated.{operand_at, op_at, IsPlaceable}
 pub use Rattle.symbolic_tiles.specs.Marks.{IsLaid, is_mark}
 use Rattle.code_layout.specs.Leap.{leap_ops}
-use Rattle.code_layout.specs.Places.{no_registers, Moves, Places}
+use Rattle.code_layout.specs.Places.{Moves, Places}
+use Rattle.plan_form.specs.declared.problem.Step.{Step}
+use Rattle.plan_form.specs.declared.problem.Step.TheVariants.{Go, Lay}
+use Rattle.plan_form.specs.declared.problem.Tile.TheVariants.{Base}
+use Rattle.reg_map.specs.Prelude.{IsPossible, move_code, moved}
 use Rattle.base_alu.specs.Tile.{tile as alu_tile}
 use Rattle.base_mem.specs.Tile.{has_access, tile as access_tile}
 use Rattle.base_flow.specs.Prelude.{tile as flow_tile, illegal_items}
@@ -18,13 +22,45 @@ use Rattle.symbolic_tiles.specs.declared.flow_op.FlowOp.TheVariants.{Plain, Jump
 abbrev pub word_ops : Instr → Map → List Op
 word_ops i map = if has_access i then access_tile i map else alu_tile i map
 
--- The items of a block whose words, decoded, stand one behind another from a guest address on: the base tile of each, up to
--- the first that is a flow word or an illegal one, which ends the block; and where none is, behind the last of them the edge
+-- one op, or none
+abbrev pub ops_in : Option Op → List Op
+ops_in (Some op) = op ∷ []
+ops_in None = []
+
+-- ops as items
+abbrev pub plain : List Op → List FlowOp
+plain ops = list_map (λ op. Plain op) ops
+
+-- The base tile of a word that stands at a guest address, under a map, before other items. A flow word and an illegal one
+-- end the block.
+abbrev pub tile_items : ℕ → Map → Option Instr → List FlowOp → List FlowOp
+tile_items at map None rest = flows_of illegal_items map
+tile_items at map (Some i) rest = if is_flow i then flow_tile i at map else plain (word_ops i map) ++ rest
+
+-- The items of a block by the steps of its plan: its words, decoded, stand one behind another from a guest address on, the
+-- registers are as a map has them, and `live` has the bits of the locations that are live before the word at each address.
+-- A move has its op, if the GPR that moves is live; a tile is that of the next word; and behind the last word stands the edge
 -- to the next address.
-unfoldable pub block_items : ℕ → List (Option Instr) → List FlowOp
-block_items at [] = Edge at ∷ []
-block_items at (None ∷ words) = flows_of illegal_items no_registers
-block_items at (Some i ∷ words) = if is_flow i then flow_tile i at no_registers else map (λ op. Plain op) (word_ops i no_registers) ++ block_items (next_address at) words
+unfoldable pub block_items : (ℕ → ℕ) → ℕ → Map → List (Option Instr) → List Step → List FlowOp
+block_items live at map [] steps = Edge at ∷ []
+block_items live at map (word ∷ words) [] = Edge at ∷ []
+block_items live at map (word ∷ words) (Go move ∷ steps) = plain (ops_in (move_code map move (live at))) ++ block_items live at (moved map move) (word ∷ words) steps
+block_items live at map (word ∷ words) (Lay tile ∷ steps) = tile_items at map word (block_items live (next_address at) map words steps)
+
+-- the word ends a block
+abbrev pub IsEnding : Option Instr → Type 0
+IsEnding None = Unit {0}
+IsEnding (Some i) = is_flow i ≡ true
+
+-- The steps lead from a map over these words to a last map, with so many moves in a row to begin with: each move is
+-- possible, at most six stand in a row and none behind the last word, and each tile is the base tile of the next word. A word
+-- that ends a block stands under the last map.
+abbrev pub LaysWords : ℕ → Map → List (Option Instr) → List Step → Map → Type 0
+LaysWords moves map [] [] last = map ≡ last
+LaysWords moves map [] (step ∷ steps) last = ⊥
+LaysWords moves map (word ∷ words) [] last = ⊥
+LaysWords moves map (word ∷ words) (Go move ∷ steps) last = (left : ℕ) × (moves ≡ suc left) × IsPossible map move × LaysWords left (moved map move) (word ∷ words) steps last
+LaysWords moves map (word ∷ words) (Lay tile ∷ steps) last = (tile ≡ Base) × (IsEnding word → map ≡ last) × LaysWords 6 map words steps last
 
 -- the bytes of ops one behind another
 abbrev pub spelled : List Op → List ℕ
@@ -38,7 +74,7 @@ moves_ops ((to, ops) ∷ moves) = ops ++ moves_ops moves
 
 -- ops over the home page at `area`, and their bytes
 abbrev pub ops_at : ℕ → List Op → List Op
-ops_at area ops = map (op_at area) ops
+ops_at area ops = list_map (op_at area) ops
 
 abbrev pub placed : ℕ → List Op → List ℕ
 placed area ops = spelled (ops_at area ops)
@@ -50,7 +86,7 @@ edge_bytes area ops target here = placed area ops ++ spelling (Jmp ((target + (2
 -- the indirect sequence at a host address: its four ops, 20 bytes long, a jump of 6 to `hold` where the address is no code
 -- word's, and the jump through the table
 abbrev pub leap_bytes : Places → ℕ → List ℕ
-leap_bytes p here = spelled (leap_ops p.first p.count) ++ (spelling (Jcc NotBelow ((p.hold + (2 ^ 32 - (here + 26))) % 2 ^ 32)) ++ spelling (JmpTo (Base eax p.table)))
+leap_bytes p here = spelled (leap_ops p.first p.count) ++ (spelling (Jcc NotBelow ((p.hold + (2 ^ 32 - (here + 26))) % 2 ^ 32)) ++ spelling (JmpTo (BaseOperand eax p.table)))
 
 abbrev pub jump_on : Option Condition → ℕ → Op
 jump_on (Some condition) rel = Jcc condition rel

@@ -22,7 +22,7 @@ const TO_HOLD_END: u32 = 26;
 /// The length of the items in bytes.
 pub fn length(items: &[FlowOp]) -> u32
     requires laid { All IsLaid items.now }
-    requires few { length items.now ≤ 8193 }
+    requires few { length items.now ≤ 8577 }
     ensures value { result ≡ items_length no_moves items.now }
     ensures bound { result ≤ 32 * length items.now }
 {
@@ -51,7 +51,7 @@ fn item_length(item: &FlowOp) -> u32
 // How many bytes stand before a mark.
 fn before_mark(items: &[FlowOp], mark: u8) -> u32
     requires laid { All IsLaid items.now }
-    requires few { length items.now ≤ 8193 }
+    requires few { length items.now ≤ 8577 }
     ensures { result ≡ before_mark_of no_moves items.now mark }
 {
     let mut bytes = 0;
@@ -67,7 +67,7 @@ fn before_mark(items: &[FlowOp], mark: u8) -> u32
 /// Puts the items behind the code that stands already.
 pub fn put(code: &mut Vec<u8>, items: &[FlowOp], layout: &Layout<'_>) -> Result<(), NoMemory>
     requires laid { All IsLaid items.now }
-    requires few { length items.now ≤ 8193 }
+    requires few { length items.now ≤ 8577 }
     requires room { layout.now.code + vec_len code.old + 32 * length items.now < 2 ^ 32 }
     ensures bytes { OnOk result (code.new.items ≡ code.old.items ++ items_bytes (places_of layout.now) (layout.now.code + vec_len code.old) items.now) }
     ensures length { OnOk result (vec_len code.new ≡ vec_len code.old + items_length no_moves items.now) }
@@ -89,7 +89,7 @@ fn put_item(
 ) -> Result<(), NoMemory>
     requires laid { IsLaid item.now }
     requires rest { All IsLaid rest.now }
-    requires few { length rest.now ≤ 8193 }
+    requires few { length rest.now ≤ 8577 }
     requires room { layout.now.code + vec_len code.old + 32 < 2 ^ 32 }
     ensures bytes { OnOk result (code.new.items ≡ code.old.items ++ item_bytes (places_of layout.now) (layout.now.code + vec_len code.old) item.now rest.now) }
     ensures length { OnOk result (vec_len code.new ≡ vec_len code.old + length_of no_moves item.now) }

@@ -34,8 +34,8 @@ impl Layout<'_> {
     }
 }
 
-// The place of the code word at the address `at`, where one of `count` from `first` on stands there.
-fn place_at(first: u32, at: u32, count: usize) -> Option<usize>
+/// The place of the code word at the address `at`, where one of `count` from `first` on stands there.
+pub fn place_at(first: u32, at: u32, count: usize) -> Option<usize>
     requires few { count ≤ 131072 }
     requires room { first + 4 * count ≤ 2 ^ 32 }
     ensures { MatchOption result ((k : ℕ) → k < count → at ≢ address first k) (λ k. (k < count) × (at ≡ address first k)) }

@@ -4,9 +4,9 @@ use Rattle.machines.specs.Prelude.{Map, condition_number, Op, Condition, Goes, C
 use Rattle.symbolic_tiles.specs.declared.flow_op.FlowOp.{FlowOp}
 use Rattle.symbolic_tiles.specs.declared.flow_op.FlowOp.TheVariants.{Plain, Jump, Mark, Edge, Leap}
 use Rattle.symbolic_tiles.specs.Prelude.{OpsAt}
-use Rattle.code_layout.specs.Prelude.{Moves, ops_at, item_length, items_length, before_mark, items_bytes}
+use Rattle.code_layout.specs.Prelude.{Moves, plain, ops_at, item_length, items_length, before_mark, items_bytes}
 use Rattle.simulation.specs.Prelude.{behind_all, SimulationContext, ForksAt, PlanStep, Move, Tile, BranchTile, FlowTile, EdgeAt, BlockAt}
-use Rattle.laid_code.specs.Prelude.{HasBytes, RunsCode, ArePlaceable, labels_of, edges_of, leaps_of, places_of, AreSwitches, ArePlaced, plain, plan_items, last_map, AreRight, PlansStand}
+use Rattle.laid_code.specs.Prelude.{HasBytes, RunsCode, ArePlaceable, labels_of, edges_of, leaps_of, places_of, AreSwitches, ArePlaced, plan_items, last_map, AreRight, PlansStand}
 use Rattle.laid_code.proofs.Items.{taken, code_is, first_item, other_items, behind_mark_at, op_at_place, jump_at_place, edge_stands, items_stand}
 
 -- where an indirect sequence begins, the items have one

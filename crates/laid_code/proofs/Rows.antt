@@ -1,6 +1,6 @@
 -- What tiles need of the instructions that translation is built for.
 use Rattle.std.proofs.Common.{◌≡◌, ℕ, ◌≤◌, Bool, true, false, List, [], ◌∷◌, All, length, Some, refl, ap, ◌∙◌, subst, arith}
-use Rattle.machines.specs.Prelude.{IsLegal, Instr, Outcome, Goes, Asks, Ends, Rights, Guest, behind, guest_acts, effect_of, Op}
+use Rattle.machines.specs.Prelude.{Map, IsMap, IsLegal, Instr, Outcome, Goes, Asks, Ends, Rights, Guest, behind, guest_acts, effect_of, Op}
 use Rattle.row_laws.specs.FlowWords.{is_flow}
 use Rattle.base_flow.specs.Prelude.{tile as flow_tile}
 use Rattle.symbolic_tiles.specs.Prelude.{window_of, Implements, WritesHeld, FlowDoesWord, IsStraight, AreMarked}
@@ -18,14 +18,14 @@ pub each_placeable : (ops : List Op) → All IsPlaceable ops → ArePlaceable op
 each_placeable [] h = tt
 each_placeable (op ∷ ops) h = (All-head IsPlaceable op ops h, each_placeable ops (All-tail IsPlaceable op ops h))
 
--- an instruction that is no flow word, with a tile of ops
+-- an instruction that is no flow word, with a tile of ops under every map
 pub record IsStraightWord (i : Instr) : Type 0 where
   pub straight : is_flow i ≡ false
-  pub few : length (word_ops i no_registers) ≤ 128
-  pub placeable : ArePlaceable (word_ops i no_registers)
-  pub does : (area : ℕ) → Implements (window_of i) no_registers area (ops_at area (word_ops i no_registers))
+  pub few : (m : Map) → length (word_ops i m) ≤ 128
+  pub placeable : (m : Map) → IsMap m → ArePlaceable (word_ops i m)
+  pub does : (m : Map) → IsMap m → (area : ℕ) → Implements (window_of i) m area (ops_at area (word_ops i m))
 
--- a flow word, with a tile of items
+-- a flow word, with a tile of items under no registers
 pub record IsFlowingWord (i : Instr) : Type 0 where
   pub flow : is_flow i ≡ true
   pub few : (at : ℕ) → length (flow_tile i at no_registers) ≤ 100
@@ -49,17 +49,17 @@ module _ (s : SimulationContext) (writes_held : WritesHeld s.guest) (i : Instr) 
   row_is g = one_row (guest_acts s.guest i (effect_of i g) g) s.guest i g refl
 
   -- its tile does the word at a guest address
-  pub straight_tile : (w : ℕ) → IsWordAt s w (Some i) → IsTile s no_registers w (i ∷ []) (window_of i) (word_ops i no_registers)
-  straight_tile w fetched = record {
+  pub straight_tile : (m : Map) → IsMap m → (w : ℕ) → IsWordAt s w (Some i) → IsTile s m w (i ∷ []) (window_of i) (word_ops i m)
+  straight_tile m is_map_of w fetched = record {
     some = omega arith;
-    few = word.few;
+    few = word.few m;
     fetched = (fetched, (λ g. quiet_if_straight (behind g.next) (guest_acts s.guest i (effect_of i g) g) (rows_are_straight i s.guest g word.straight)), tt);
     rows = row_is;
     inside = record {
       loads = λ g g' a e c. (accesses_are_inside i s.guest g g' word.straight writes_held e).loads a c;
       stores = λ g g' a e c. (accesses_are_inside i s.guest g g' word.straight writes_held e).stores a c;
     };
-    does = word.does s.area;
+    does = word.does m is_map_of s.area;
   }
 
   -- and leads to the next word
@@ -77,9 +77,9 @@ kind_of i legal = by_flow (is_flow i) refl
     by_flow : (b : Bool) → is_flow i ≡ b → Kind i
     by_flow false e = straight (record {
       straight = e;
-      few = (tiles_are_short i no_registers legal (straight_word i e)).0;
-      placeable = each_placeable (word_ops i no_registers) (tiles_are_placeable i no_registers legal (straight_word i e) is_map);
-      does = λ area. tiles_do_rows i legal (straight_word i e) no_registers area is_map;
+      few = λ m. (tiles_are_short i m legal (straight_word i e)).0;
+      placeable = λ m is_map_of. each_placeable (word_ops i m) (tiles_are_placeable i m legal (straight_word i e) is_map_of);
+      does = λ m is_map_of area. tiles_do_rows i legal (straight_word i e) m area is_map_of;
     })
     by_flow true e = flowing (record {
       flow = e;

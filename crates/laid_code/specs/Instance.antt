@@ -5,6 +5,9 @@ use Rattle.byteorder.specs.Endian.{little_bytes}
 use Rattle.machines.specs.Prelude.{Instr, Map, Program, rights_of, code_of, first_bytes, Fetched, guest_machine, without, narrow_machine}
 pub use Rattle.code_words.specs.Words.{HasWords}
 use Rattle.simulation.specs.Prelude.{SimulationContext}
+use Rattle.reg_map.specs.Prelude.{is_live}
+use Rattle.liveness.specs.Prelude.{Sets, live_at}
+use Rattle.plan_form.specs.declared.problem.Step.{Step}
 use Rattle.code_layout.specs.Prelude.{no_registers, entry_of, IsCodeFor}
 
 -- where the table begins: behind the home page
@@ -45,16 +48,19 @@ context_of interface targets words ops P Q first area table = record {
 abbrev pub without_registers : (ℕ → ℕ → Bool) → Interface
 without_registers live = record { entry_map = λ w. no_registers; live = live }
 
--- so the words' code is laid out, whatever is live: edges, too, lead where the table says
-abbrev pub laid_context : (ℕ → ℕ → Bool) → (ℕ → Option Instr) → (List ℕ → Option Fetched) → Program → Program → ℕ → ℕ → List ℕ → SimulationContext
-laid_context live words ops P Q first area table = context_of (without_registers live) (entry_of first table (code_start area)) words ops P Q first area table
+-- so code is laid by plans, with what these live sets have: edges, too, lead where the table says
+abbrev pub laid_interface : Sets → Interface
+laid_interface sets = without_registers (λ w x. is_live (live_at sets w) x)
 
--- the code of Q is that of these words' blocks, by this table, and lies below 2^32
-pub record HasCodeFor (Q : Program) (first entry : ℕ) (words : List ℕ) (area : ℕ) (table : List ℕ) : Type 0 where
+abbrev pub laid_context : Sets → (ℕ → Option Instr) → (List ℕ → Option Fetched) → Program → Program → ℕ → ℕ → List ℕ → SimulationContext
+laid_context sets words ops P Q first area table = context_of (laid_interface sets) (entry_of first table (code_start area)) words ops P Q first area table
+
+-- the code of Q is that of these words' blocks by these plans and live sets, by this table, and lies below 2^32
+pub record HasCodeFor (Q : Program) (first entry : ℕ) (words : List ℕ) (live : Sets) (plans : List (List Step)) (area : ℕ) (table : List ℕ) : Type 0 where
   pub at : (code_of Q).at ≡ code_start area
   pub low : code_start area + length (code_of Q).bytes < 2 ^ 32
   pub count : length table ≡ length words
-  pub code : IsCodeFor first entry words area table (code_of Q).bytes
+  pub code : IsCodeFor first entry words live plans area table (code_of Q).bytes
 
 -- these words stand in the context's table, which can be read and not written
 pub record HasTableOf (s : SimulationContext) (entries : List ℕ) : Type 0 where

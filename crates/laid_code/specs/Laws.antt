@@ -1,6 +1,9 @@
 -- What holds of code that stands at addresses.
-use Rattle.std.specs.Prelude.{◌≡◌, ℕ, ◌+◌, ◌-◌, ◌%◌, ◌^◌, ◌<◌, ◌⊎◌, Bool, List, length, slice_index, Option, All, Contains}
-use Rattle.machines.specs.Prelude.{spelling, IsInProfile, Op, Jmp, Code, Map, Instr, Program, Fetched, ReadsWords, ReadsOps}
+use Rattle.std.specs.Prelude.{◌≡◌, ℕ, ◌+◌, ◌-◌, ◌%◌, ◌^◌, ◌<◌, ◌⊎◌, List, length, slice_index, Option, All, Contains}
+use Rattle.machines.specs.Prelude.{spelling, IsInProfile, Op, Jmp, Code, Map, Instr, Program, Fetched, ReadsWords, ReadsOps, rights_of, code_of, without}
+use Rattle.reg_map.specs.Prelude.{IsHomePage}
+use Rattle.liveness.specs.Prelude.{Sets}
+use Rattle.plan_form.specs.declared.problem.Step.{Step}
 use Rattle.symbolic_tiles.specs.declared.flow_op.FlowOp.{FlowOp}
 use Rattle.symbolic_tiles.specs.Prelude.{OpAt, EdgeCode, ItemsAt, AreMarked}
 use Rattle.simulation.specs.Prelude.{SimulationContext, HasTable, IsOffCode, JumpsTo, PlanStep, EdgeAt, LeapAt, BlockAt, Begins}
@@ -43,17 +46,18 @@ PlansStand =
 abbrev pub IsBlockOrOff : SimulationContext → ℕ → Type 0
 IsBlockOrOff s w = Begins s w ⊎ (IsOffCode s w × (s.target w ≡ s.hold))
 
--- The code of the written program carries the block of each code word of P, whatever is live.
+-- The code of the written program carries the block of each code word of P by its plan, where the home page stands apart from P.
 abbrev pub BlocksStand : Type 0
 BlocksStand =
-    (live : ℕ → ℕ → Bool) (reading : ℕ → Option Instr) (ops : List ℕ → Option Fetched) (P Q : Program) (first entry : ℕ) (words : List ℕ) (area : ℕ) (table : List ℕ) →
-    ReadsWords reading → ReadsOps ops → HasWords P first words → HasCodeFor Q first entry words area table → (w : ℕ) → IsBlockOrOff (laid_context live reading ops P Q first area table) w
+    (reading : ℕ → Option Instr) (ops : List ℕ → Option Fetched) (P Q : Program) (first entry : ℕ) (words : List ℕ) (live : Sets) (plans : List (List Step)) (area : ℕ) (table : List ℕ) →
+    ReadsWords reading → ReadsOps ops → HasWords P first words → HasCodeFor Q first entry words live plans area table → IsHomePage area (rights_of P) (without (code_of Q) (rights_of Q)) →
+    (w : ℕ) → IsBlockOrOff (laid_context live reading ops P Q first area table) w
 
 -- `hold` is a jump to itself, under every interface.
 abbrev pub HoldStands : Type 0
 HoldStands =
-    (interface : Interface) (targets : ℕ → ℕ) (reading : ℕ → Option Instr) (ops : List ℕ → Option Fetched) (P Q : Program) (first entry : ℕ) (words : List ℕ) (area : ℕ) (table : List ℕ) →
-    ReadsOps ops → HasCodeFor Q first entry words area table → JumpsTo (context_of interface targets reading ops P Q first area table) (code_start area) (code_start area)
+    (interface : Interface) (targets : ℕ → ℕ) (reading : ℕ → Option Instr) (ops : List ℕ → Option Fetched) (P Q : Program) (first entry : ℕ) (words : List ℕ) (live : Sets) (plans : List (List Step)) (area : ℕ) (table : List ℕ) →
+    ReadsOps ops → HasCodeFor Q first entry words live plans area table → JumpsTo (context_of interface targets reading ops P Q first area table) (code_start area) (code_start area)
 
 -- each word of a table is a host address
 abbrev pub AreAddresses : List ℕ → Type 0
@@ -62,8 +66,8 @@ AreAddresses table = (k : ℕ) → k < length table → slice_index table k < 2 
 -- The table of the words' code is made of host addresses.
 abbrev pub EntriesAreAddresses : Type 0
 EntriesAreAddresses =
-    (Q : Program) (first entry : ℕ) (words : List ℕ) (area : ℕ) (table : List ℕ) →
-    HasCodeFor Q first entry words area table → AreAddresses table
+    (Q : Program) (first entry : ℕ) (words : List ℕ) (live : Sets) (plans : List (List Step)) (area : ℕ) (table : List ℕ) →
+    HasCodeFor Q first entry words live plans area table → AreAddresses table
 
 -- A table of host addresses that stands in memory leads where its words say, and elsewhere nothing but to `hold`: under
 -- every interface, wherever edges lead.

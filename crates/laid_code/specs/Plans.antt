@@ -1,15 +1,12 @@
 -- The items of a block's plan, and when its steps are right. This project's own.
-use Rattle.std.specs.Prelude.{◌≡◌, ℕ, cond, List, [], ◌∷◌, ◌++◌, map, Some, All, Contains}
-use Rattle.machines.specs.Prelude.{Map, condition_number, Op}
+use Rattle.std.specs.Prelude.{◌≡◌, ℕ, cond, List, [], ◌∷◌, ◌++◌, Some, All, Contains}
+use Rattle.machines.specs.Prelude.{Map, condition_number}
 use Rattle.symbolic_tiles.specs.declared.flow_op.FlowOp.{FlowOp}
-use Rattle.symbolic_tiles.specs.declared.flow_op.FlowOp.TheVariants.{Plain, Jump, Mark, Edge, Leap}
-use Rattle.code_layout.specs.Prelude.{no_registers, IsLaid}
+use Rattle.symbolic_tiles.specs.declared.flow_op.FlowOp.TheVariants.{Jump, Mark, Edge, Leap}
+use Rattle.code_layout.specs.Prelude.{no_registers, plain, IsLaid}
 use Rattle.simulation.specs.Prelude.{behind_all, SimulationContext, PlanStep, Move, Tile, BranchTile, FlowTile, IsMove, IsTile, IsUnneeded, LeadsTo, IsFlowTile}
 use Rattle.laid_code.specs.Items.{ArePlaceable}
 use Rattle.symbolic_tiles.specs.Prelude.{AreMarked}
-
-abbrev pub plain : List Op → List FlowOp
-plain ops = map (λ op. Plain op) ops
 
 -- The items of steps, the first of whose words has a guest address: the ops, and the edges at the end.
 abbrev pub plan_items : ℕ → List PlanStep → List FlowOp

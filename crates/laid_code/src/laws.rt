@@ -2,7 +2,8 @@
 
 ghost use Rattle.laid_code.specs.Laws.{SpellingsStand, JumpsLead, ItemsStand, PlansStand, BlocksStand, HoldStands, EntriesAreAddresses, TablesStand};
 
-use block_find::each_is_block;
+use block_find::{each_begins_one, each_is_block};
+use simulation::move_codes_move;
 
 /// Where the spelling of an op stands in the code, the op stands.
 pub fn spellings_stand()
@@ -26,12 +27,14 @@ pub fn plans_stand()
     ensures { PlansStand }
 {}
 
-/// At each code word of a program the block of its plan stands in the written code, and edges to other
-/// addresses lead to `hold`. Its block takes no location to be dead.
+/// At each code word of a program its block stands in the written code by its plan, and edges to other addresses lead to
+/// `hold`.
 pub fn blocks_stand()
     ensures { BlocksStand }
 {
+    each_begins_one();
     each_is_block();
+    move_codes_move();
 }
 
 /// `hold` is a jump to itself.

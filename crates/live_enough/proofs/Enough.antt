@@ -1,24 +1,24 @@
 -- From states that are alike in what is live, a word does the same.
-use Rattle.std.proofs.Common.{◌≡◌, ℕ, suc, ◌+◌, ◌*◌, ◌-◌, ◌/◌, ◌%◌, ◌^◌, ◌<◌, ◌==◌, ◌⊎◌, inl, inr, Bool, true, false, cond, List, [], ◌∷◌, length, slice_index, slice_index_or, Contains, Option, Some, None, IsTrue, bit_and, if◌then◌else◌, refl, sym, ap, ◌∙◌, subst, arith}
+use Rattle.std.proofs.Common.{◌≡◌, ℕ, ◌+◌, ◌*◌, ◌-◌, ◌/◌, ◌%◌, ◌^◌, ◌<◌, ◌==◌, ◌⊎◌, inl, inr, Bool, true, false, cond, List, length, slice_index, slice_index_or, Contains, Option, Some, None, refl, sym, ap, ◌∙◌, subst, arith}
 use Rattle.std.specs.Prelude.{IsBitSet}
-use Rattle.std.proofs.lemmas.Bool.{false≢true, eqb-true, cases_lt}
+use Rattle.std.proofs.lemmas.Bool.{eqb-true, cases_lt}
 use Rattle.std.proofs.lemmas.Bool.Decides.{nat_tests}
 use Rattle.std.proofs.lemmas.Nat.{and_mask, bit_set_by_shift}
 use Rattle.std.proofs.lemmas.List.{get_or_default, get_or_past}
-use Rattle.machines.specs.Prelude.{HasOneInstruction, Outside, Instr, Program, Outcome, Goes, Asks, Ends, AnswerValue, Guest, IsWordOf, behind, effect_of, guest_acts, guest_executes, guest_machine, locations_read, locations_written, rights_of, code_of, is_code_word, word_of_code}
+use Rattle.machines.specs.Prelude.{HasOneInstruction, Outside, Instr, Program, Outcome, Goes, Asks, Ends, Guest, IsWordOf, effect_of, guest_acts, guest_executes, guest_machine, locations_read, locations_written, rights_of, code_of, is_code_word, word_of_code}
 use Rattle.reg_map.specs.Prelude.{is_live}
-use Rattle.block_find.specs.Prelude.{Names, address_of, named_address}
+use Rattle.block_find.specs.Prelude.{address_of}
 use Rattle.row_laws.specs.Laws.{Next, Alike as AlikeRows, AreSame, DependsOnItsReadsAlone, KeepsAgreement}
 use Rattle.row_laws.proofs.Agreement.{in_or_not}
 use Rattle.row_laws.proofs.Lists.{Lacks}
-use Rattle.liveness.specs.Live.{IsLive, Leads, FallsThrough}
+use Rattle.liveness.specs.Live.{IsLive, Leads}
 use Rattle.liveness.specs.Laws.{LiveByBehind}
-use Rattle.liveness.specs.Prelude.{Sets, AreLive, IsRead, IsWritten, CountsAsRead, named, anywhere, live_at, leads_anywhere, falls_through}
+use Rattle.liveness.specs.Prelude.{Sets, IsRead, IsWritten, named, anywhere, live_at}
 use Rattle.liveness.proofs.Bits.{in_set}
 use Rattle.liveness.proofs.Within.{below}
-use Rattle.simulation.specs.Prelude.{SimulationContext, IsGuest, Alike, AreAlike, LiveIsEnough}
+use Rattle.simulation.specs.Prelude.{SimulationContext, IsGuest, Alike, AreAlike}
 use Rattle.live_enough.specs.Laws.{HasLiveSets, LiveSetsAreEnough}
-use Rattle.live_enough.proofs.Next.{GoesBy, IsOnward, goes_by}
+use Rattle.live_enough.proofs.Next.{GoesBy, goes_by}
 
 -- the two ways to say that a location is among bits
 set_if_live : (bits x : ℕ) → is_live bits x ≡ true → IsBitSet bits x

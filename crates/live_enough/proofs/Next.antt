@@ -1,8 +1,8 @@
 -- Where an instruction leads, as liveness has it.
-use Rattle.std.proofs.Common.{◌≡◌, ℕ, ◌+◌, ◌-◌, ◌/◌, ◌%◌, ◌^◌, ◌*◌, ◌==◌, ◌&&◌, ◌||◌, not, ◌⊎◌, inl, inr, Bool, true, false, cond, eqb, Option, Some, IsTrue, refl, sym, ap, ◌∙◌, subst, arith}
+use Rattle.std.proofs.Common.{◌≡◌, ℕ, ◌==◌, ◌&&◌, ◌||◌, not, ◌⊎◌, inl, inr, Bool, true, false, cond, eqb, Some, IsTrue, refl, sym, ap, subst, arith}
 use Rattle.std.proofs.lemmas.Bool.{false≢true}
 use Rattle.std.proofs.lemmas.Bool.Decides.{nat_tests}
-use Rattle.machines.specs.Prelude.{Instr, Immediate, LogicImmediate, Load, Store, LoadUpdate, StoreUpdate, Multiple, TrapImmediate, CompareImmediate, Rotate, Branch, BranchConditional, SystemCall, Arithmetic, ArithmeticUnary, Logic, ShiftImmediate, LogicUnary, Compare, Trap, MoveFromCr, MoveToCr, MoveFromSpr, MoveToSpr, Sync, LoadIndexed, StoreIndexed, LoadIndexedUpdate, StoreIndexedUpdate, MoveCrField, CrLogic, Isync, BranchRegister, Outcome, Goes, Asks, Ends, AnswerValue, ListedCall, Read, Write, Close, Given, Gives, Fails, given, Rights, Guest, GuestValues, behind, effect_of, guest_acts, guest_system_call, guest_asks, after_guest_call, at_next, branch_target, block, same, bo_0, bo_2, bo_bit, bit_of, count_allows, condition_allows, cr_bit, counted, guest_row, guest_values, loaded_in, each_byte}
+use Rattle.machines.specs.Prelude.{Instr, Immediate, LogicImmediate, Load, Store, LoadUpdate, StoreUpdate, Multiple, TrapImmediate, CompareImmediate, Rotate, Branch, BranchConditional, SystemCall, Arithmetic, ArithmeticUnary, Logic, ShiftImmediate, LogicUnary, Compare, Trap, MoveFromCr, MoveToCr, MoveFromSpr, MoveToSpr, Sync, LoadIndexed, StoreIndexed, LoadIndexedUpdate, StoreIndexedUpdate, MoveCrField, CrLogic, Isync, BranchRegister, Outcome, Goes, Asks, Ends, ListedCall, Read, Write, Close, Given, Gives, Fails, given, Rights, Guest, GuestValues, behind, effect_of, guest_acts, guest_system_call, guest_asks, after_guest_call, at_next, branch_target, block, same, bo_0, bo_2, bo_bit, cr_bit, counted, guest_row, guest_values, loaded_in, each_byte}
 use Rattle.space.specs.declared.call.End.TheVariants.{Trap as Trapped}
 use Rattle.row_laws.specs.FlowWords.{is_flow}
 use Rattle.row_laws.specs.Laws.{Next}

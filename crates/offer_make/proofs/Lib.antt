@@ -1,5 +1,5 @@
 mod Numbers
-mod Elements
+pub mod Elements
 mod Moving
 mod Firsts
 mod Counting

@@ -1,6 +1,6 @@
 //! The problem of a block.
 
-ghost use Rattle.std.specs.Prelude.{IfOk};
+ghost use Rattle.std.specs.Prelude.{◌≡◌, [], IfOk};
 ghost use Rattle.plan_form.specs.Prelude.{IsFull};
 ghost use Rattle.offer_make.specs.Problem.{IsBlockOf, AreBoundaryMaps, IsProblemOf};
 
@@ -15,12 +15,13 @@ use liveness::LiveSets;
 use plan_form::Problem;
 use ppc_isa::{Map, one_instruction};
 use reg_map::moves_move_one;
+use rule_audit::Audited;
 use std::alloc::Global;
 use word_kit::NoMemory;
 
 /// The problem of a block with its boundary maps: all maps over its candidates, the moves between these and the base tiles of
 /// its words, with their prices. A leader's block has candidates; a word that stands alone has none. The tables stand in order
-/// of place, then of map, then of step.
+/// of place, then of map, then of step. There are no rules yet whose tiles could be offered.
 ///
 /// # Errors
 /// `NoMemory` where there is no memory for the tables.
@@ -31,8 +32,10 @@ pub fn problem(
     exit: &Map,
     leader: bool,
     live: &LiveSets,
+    rules: &Audited,
 ) -> Result<Problem, NoMemory>
     requires block { IsBlockOf live.now block.now }
+    requires norules { rules.now.rules.items ≡ [] }
     requires boundary { AreBoundaryMaps block.now entry.now exit.now leader }
     ensures full { IfOk result (λ q. IsFull q) }
     ensures problem { IfOk result (λ q. IsProblemOf block.now entry.now exit.now leader live.now q) }

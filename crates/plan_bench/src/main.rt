@@ -17,6 +17,7 @@ use liveness::{LiveSets, live};
 use offer_make::{blocks_have_live_sets, problem};
 use plan_form::plan_cost;
 use ppc_isa::Map;
+use rule_audit::Audited;
 use space::{Kind, Program};
 use std::alloc::Global;
 use std::{env, fs, io};
@@ -46,7 +47,15 @@ fn found_in(alloc: Global, program: &Program) -> Result<(Blocks, LiveSets), NoMe
 fn measured(alloc: Global, command: &str, block: &Block, live: &LiveSets) -> Result<u64, NoMemory>
     requires { IsBlockOf live.now block.now }
 {
-    let problem = problem(alloc, block, &EMPTY, &EMPTY, true, live)?;
+    let problem = problem(
+        alloc,
+        block,
+        &EMPTY,
+        &EMPTY,
+        true,
+        live,
+        &Audited::none(alloc),
+    )?;
     if command == "problem" {
         return Ok(problem.moves.len() as u64);
     }

@@ -3,10 +3,8 @@ use Rattle.std.proofs.Common.{◌≡◌, ◌≢◌, ℕ, zero, suc, ◌^◌, ◌
 use Rattle.std.proofs.lemmas.Bool.{eqb-true, ne_eqb, false≢true}
 use Rattle.machines.specs.Prelude.{Instr, Map, IsMap, IsWordOf, IsReg, AluImm, MovTo, MovFrom, Add, Reg, Abs, ebx, esi, rights_of, code_of, Fetched, ReadsWords, ReadsOps, behind, is_code_word, word_of_code, guest_executes, Op, Guest}
 use Rattle.reg_map.specs.Prelude.{slot_of, IsHomePage}
-use Rattle.base_alu.specs.Tile.{tile as alu_tile}
 use Rattle.base_flow.specs.Prelude.{tile as flow_tile}
 use Rattle.symbolic_tiles.specs.Prelude.{Fits, flow}
-use Rattle.base_alu.proofs.Tiles.{tiles_are_placeable, tiles_do_rows}
 use Rattle.base_flow.proofs.Tiles.{flow_tiles_do_rows}
 use Rattle.symbolic_tiles.proofs.PlaceLaws.{programs_write_held}
 use Rattle.code_layout.specs.Prelude.{no_registers, entry_of, IsPlaceable, IsLaid}
@@ -14,9 +12,9 @@ use Rattle.std.proofs.lemmas.List.Elements.{All-from_recursion}
 use Rattle.symbolic_tiles.specs.declared.flow_op.FlowOp.TheVariants.{Edge, Leap}
 use Rattle.code_layout.proofs.BuiltWords.{is_map}
 use Rattle.simulation.specs.Prelude.{IsOffCode, PlanStep, IsMove, IsTile, LeadsTo, EdgeAt, DoorAt, Begins, MovesKeep}
-use Rattle.laid_code.specs.Prelude.{ArePlaceable, AreSwitches, IsSwitch, AreRight, PlansStand}
+use Rattle.laid_code.specs.Prelude.{AreSwitches, IsSwitch, AreRight, PlansStand}
 use Rattle.laid_code.proofs.Carried.{entry_or_hold}
-use Rattle.laid_code.proofs.Rows.{each_placeable, IsStraightWord, straight_tile, straight_leads}
+use Rattle.laid_code.proofs.Rows.{IsStraightWord, straight_tile, straight_leads, straight, flowing, kind_of}
 use Rattle.upkeep.specs.Written.{narrow_rights}
 use Rattle.plan_example.specs.Example.{program, translation, first, entries, entry_map, adds, back, in_ebx, in_esi, from_none, from_esi, from_ebx, both_adds, one, behind_one, first_plan, last_plan, second_plan, third_plan, area, hold, first_block, last_block, second_block, third_block, adapter, target}
 use Rattle.plan_example.proofs.Words.{legal_adds, legal_back, word_1, word_2, word_3, word_4, which, has_words}
@@ -59,11 +57,8 @@ off_target w off = rw (not_at 0x10000 refl, not_at 0x10004 refl, not_at 0x10008 
     not_at : (k : ℕ) → is_code_word (code_of program) k ≡ true → eqb w k ≡ false
     not_at k on = ne_eqb w k (λ e. false≢true (sym off ∙ ap (λ (a : ℕ). is_code_word (code_of program) a) e ∙ on))
 
-tile_placeable : (n : ℕ) → n < 2 ^ 16 → ArePlaceable (alu_tile (adds n) no_registers)
-tile_placeable n small = each_placeable (alu_tile (adds n) no_registers) (tiles_are_placeable (adds n) no_registers (legal_adds n small) tt is_map)
-
 straight_adds : (n : ℕ) → n < 2 ^ 16 → IsStraightWord (adds n)
-straight_adds n small = record { straight = refl; few = omega arith; placeable = tile_placeable n small; does = λ area. tiles_do_rows (adds n) (legal_adds n small) tt no_registers area is_map }
+straight_adds n small = elim (kind_of (adds n) (legal_adds n small)) [ straight word ↦ word | flowing word ↦ absurd (false≢true word.flow) ]
 
 module _ (reading : ℕ → Option Instr) (ops : List ℕ → Option Fetched) (reads_words : ReadsWords reading) (reads_ops : ReadsOps ops) (moves : MovesKeep) (plans : PlansStand) (page : IsHomePage area (rights_of program) (narrow_rights translation)) where
   -- the moves of r3
@@ -103,8 +98,8 @@ module _ (reading : ℕ → Option Instr) (ops : List ℕ → Option Fetched) (r
   -- a base tile of an addi
   one_right : (w n word : ℕ) (steps : List PlanStep) → n < 2 ^ 16 → is_code_word (code_of program) w ≡ true → word_of_code (code_of program) w ≡ word → IsWordOf word (adds n) → AreRight (s reading ops) no_registers (behind w) steps → AreRight (s reading ops) no_registers w (one n ∷ steps)
   one_right w n word steps small on is of right = (
-    straight_tile (s reading ops) (programs_write_held program) (adds n) (straight_adds n small) w (word_at reading ops reads_words w word (adds n) on is of),
-    tile_placeable n small,
+    straight_tile (s reading ops) (programs_write_held program) (adds n) (straight_adds n small) no_registers is_map w (word_at reading ops reads_words w word (adds n) on is of),
+    (straight_adds n small).placeable no_registers is_map,
     (λ x e. absurd (false≢true e)),
     straight_leads (s reading ops) (programs_write_held program) (adds n) (straight_adds n small) w,
     right,

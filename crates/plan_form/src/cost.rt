@@ -40,8 +40,8 @@ fn first_move(moves: &[MovePrice], place: u32) -> usize
     low
 }
 
-// The price of a move at a place under a map.
-fn move_price(moves: &[MovePrice], place: u32, map: &Map, step: Move) -> Option<u32>
+/// The price of a move at a place under a map. It takes no memory.
+pub fn move_price(moves: &[MovePrice], place: u32, map: &Map, step: Move) -> Option<u32>
     ensures { MatchOption result
         ((price : ℕ) → ¬ Contains moves.now (record { place = place; map = map.now; step = step; price = price }))
         (λ price. Contains moves.now (record { place = place; map = map.now; step = step; price = price })) }
@@ -84,8 +84,8 @@ fn first_offer(offers: &[Offer], place: u32) -> usize
     low
 }
 
-// The offer of a tile at a place under a map.
-fn offer_of(offers: &[Offer], place: u32, map: &Map, tile: Tile) -> Option<Offer>
+/// The offer of a tile at a place under a map. It takes no memory.
+pub fn offer_of(offers: &[Offer], place: u32, map: &Map, tile: Tile) -> Option<Offer>
     ensures { MatchOption result
         ((to price : ℕ) → ¬ Contains offers.now (record { from = place; to = to; map = map.now; tile = tile; price = price }))
         (λ offer. Contains offers.now offer × (offer ≡ record { from = place; to = offer.to; map = map.now; tile = tile; price = offer.price })) }

@@ -17,7 +17,7 @@ mod progress;
 mod step_words;
 
 pub use check::check_labels;
-pub use cost::plan_cost;
+pub use cost::{move_price, offer_of, plan_cost};
 pub use fault::TextFault;
 pub use index::{KEYS, index_in, map_indexes};
 pub use laws::{certified_cost_is_least, one_line, one_list};

@@ -11,3 +11,5 @@ mod edges;
 mod programs;
 #[cfg(test)]
 mod small_problems;
+#[cfg(test)]
+mod verified;

@@ -1,4 +1,4 @@
-// Programs of one segment of code, with their blocks and live sets.
+// Programs of one segment of code, with their blocks and live sets, and their translations' plans.
 
 ghost use Rattle.std.specs.Prelude.{ℕ, List, IfOk};
 ghost use Rattle.machines.specs.Prelude.{PowerPc};
@@ -10,11 +10,14 @@ use code_words::{code_words, entry_place};
 use elf_load::load;
 use liveness::{LiveSets, live};
 use offer_make::blocks_have_live_sets;
+use plan_form::BlockPlan;
 use ppc_isa::Map;
+use rule_audit::Audited;
 use space::{Kind, Program};
 use std::alloc::Global;
 use std::process::Abort;
 use std::test::Fail;
+use translate_core::translate;
 use word_kit::NoMemory;
 
 /// The map that holds no GPR.
@@ -23,6 +26,11 @@ pub const EMPTY: Map = Map {
     esi: None,
     edi: None,
 };
+
+/// A function that is called 1000 times: li r31,1000; li r3,0; bl to the ninth word; addic. r31,r31,-1; bne to the third word;
+/// clrlwi r3,r3,24; li r0,1; sc; and the eight words of the function, up to its blr.
+pub const CALLED: &str =
+    "3be003e8386000004800001937ffffff4082fff85463063e38000001440000029421fff07c0802a69001001438630003800100147c0803a6382100104e800020";
 
 // A file whose one segment is this code, which stands at 0x10000000.
 fn file(alloc: Global, code: &str) -> Result<Vec<u8>, Fail> {
@@ -37,7 +45,7 @@ fn file(alloc: Global, code: &str) -> Result<Vec<u8>, Fail> {
 }
 
 // The blocks and the live sets of a program.
-fn found_in(alloc: Global, program: &Program) -> Result<(Blocks, LiveSets), NoMemory>
+fn blocks_and_live_sets_of(alloc: Global, program: &Program) -> Result<(Blocks, LiveSets), NoMemory>
     requires { (bytes : List ℕ) × IsProgramOf PowerPc bytes program.now }
     ensures { IfOk result (λ found. AreBlocksWith found.0 found.1) }
 {
@@ -49,13 +57,9 @@ fn found_in(alloc: Global, program: &Program) -> Result<(Blocks, LiveSets), NoMe
     Ok((blocks, live))
 }
 
-/// The blocks and the live sets of the program with this code.
-pub fn blocks_and_live_sets(
-    rt: &impl Abort,
-    alloc: Global,
-    code: &str,
-) -> Result<(Blocks, LiveSets), Fail>
-    ensures { IfOk result (λ found. AreBlocksWith found.0 found.1) }
+// The program with this code.
+fn program(rt: &impl Abort, alloc: Global, code: &str) -> Result<Program, Fail>
+    ensures { IfOk result (λ program. (bytes : List ℕ) × IsProgramOf PowerPc bytes program) }
 {
     let file = file(alloc, code)?;
     if file.len() >= 1000 {
@@ -64,6 +68,31 @@ pub fn blocks_and_live_sets(
     let Ok(program) = load(alloc, &file, Kind::PowerPc) else {
         panic!(rt; "refused");
     };
-    let (blocks, live) = found_in(alloc, &program)?;
+    Ok(program)
+}
+
+/// The blocks and the live sets of the program with this code.
+pub fn blocks_and_live_sets(
+    rt: &impl Abort,
+    alloc: Global,
+    code: &str,
+) -> Result<(Blocks, LiveSets), Fail>
+    ensures { IfOk result (λ found. AreBlocksWith found.0 found.1) }
+{
+    let program = program(rt, alloc, code)?;
+    let (blocks, live) = blocks_and_live_sets_of(alloc, &program)?;
     Ok((blocks, live))
+}
+
+/// The program with this code, and the plans by which it is translated.
+pub fn translated(
+    rt: &impl Abort,
+    alloc: Global,
+    code: &str,
+) -> Result<(Program, Vec<BlockPlan>), Fail>
+    ensures { IfOk result (λ found. (bytes : List ℕ) × IsProgramOf PowerPc bytes found.0) }
+{
+    let program = program(rt, alloc, code)?;
+    let output = translate(alloc, &program, &Audited::none(alloc))?;
+    Ok((program, output.plans))
 }

@@ -17,6 +17,7 @@ use plan_form::{Offer, Problem, Tile, check_labels, plan_cost, same_map};
 use ppc_isa::{Instr, Map, decode};
 use rand_core::utils::NextWord;
 use rand_pcg::Pcg32;
+use rule_audit::Audited;
 use std::alloc::Global;
 use std::process::Abort;
 use std::test::Fail;
@@ -51,7 +52,7 @@ fn problem_between(
     if !is_branch(words[words.len() - 1]) {
         panic!(rt; "another end");
     }
-    problem(alloc, block, entry, exit, true, live)
+    problem(alloc, block, entry, exit, true, live, &Audited::none(alloc))
 }
 
 // Whether a tile isn't offered yet.

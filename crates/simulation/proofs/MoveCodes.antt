@@ -6,7 +6,8 @@ use Rattle.reg_map.specs.Prelude.{home, slot_register, moved_gpr, moved, move_op
 use Rattle.reg_map.specs.declared.moves.Move.{Move}
 use Rattle.reg_map.specs.declared.moves.Move.TheVariants.{Drop, Take}
 use Rattle.reg_map.proofs.Moving.{moves_move_one}
-use Rattle.simulation.specs.Prelude.{SimulationContext, IsMove, ops_in, MoveCodesMove}
+use Rattle.code_layout.specs.Prelude.{ops_in}
+use Rattle.simulation.specs.Prelude.{SimulationContext, IsMove, MoveCodesMove}
 use Rattle.simulation.proofs.Moves.{moves_keep}
 
 home_word : (g : ℕ) → g < 32 → home g ≡ 4 * g

@@ -1,15 +1,11 @@
 -- The code of a move of a register map, in a plan.
-use Rattle.std.specs.Prelude.{◌≡◌, ℕ, List, [], ◌∷◌, Option, Some, None}
-use Rattle.machines.specs.Prelude.{Map, IsMap, Op}
+use Rattle.std.specs.Prelude.{◌≡◌, ℕ}
+use Rattle.machines.specs.Prelude.{Map, IsMap}
 use Rattle.reg_map.specs.declared.moves.Move.{Move}
 use Rattle.reg_map.specs.Prelude.{IsPossible, moved_gpr, moved, is_live, move_code, IsHomePage}
 use Rattle.simulation.specs.Context.{SimulationContext}
+use Rattle.code_layout.specs.Prelude.{ops_in}
 use Rattle.simulation.specs.Plan.{IsMove}
-
--- one op, or none
-abbrev pub ops_in : Option Op → List Op
-ops_in (Some op) = op ∷ []
-ops_in None = []
 
 -- By a possible move the ops lead to the map behind it and keep each value that is live at the next word, where the bits say
 -- of its GPR whether it is.

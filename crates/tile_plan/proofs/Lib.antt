@@ -1,6 +1,6 @@
 mod Edges
 mod Leasts
-mod Orders
+pub mod Orders
 mod Firsts
 mod Chosen
 mod Switches

@@ -20,6 +20,8 @@ module _ (o : Outside) (from bytes bytes' : List ℕ) (output : Output) (held : 
   translated to file is written others = record {
     source = source;
     file = output.file;
+    plans = output.plans.items;
+    best = is_answer.best;
     carries = is_answer.carries;
     agrees = is_answer.agrees;
     written = λ telling. written telling ∙ ap Some is;

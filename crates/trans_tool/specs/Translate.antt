@@ -5,6 +5,9 @@ use Rattle.elf_load.specs.Prelude.{IsProgramOf, IsFirstFault}
 use Rattle.elf_load.specs.declared.refusal.ElfRefusal.{ElfRefusal}
 use Rattle.agreement.specs.Files.{Agrees}
 use Rattle.agreement.specs.Written.{Carries}
+use Rattle.plan_form.specs.declared.problem.BlockPlan.{BlockPlan}
+use Rattle.best_plans.specs.Plans.{HasBestPlans}
+use Rattle.code_layout.specs.Prelude.{steps_of}
 use Rattle.translate_core.specs.declared.translation.Output.{Output}
 use Rattle.trans_tool.specs.Whole.{IsLonger}
 use Rattle.trans_tool.specs.Seen.{Outside, FilesStand, OthersStand}
@@ -29,13 +32,15 @@ pub record IsRefused (o : Outside) (from : List ℕ) (rule : ElfRefusal) (offset
   pub input : IsInput o from bytes
   pub fault : IsFirstFault PowerPc bytes rule offset
 
--- IN held a PowerPC program. OUT holds a file that carries its translation and agrees with it: for every list of
+-- IN held a PowerPC program. OUT holds a file that carries its blocks by their best plans and agrees with it: for every list of
 -- answers to calls, every choice of the processor and every n, until the program's first access outside its segments. All
 -- other names hold what they held.
 pub record IsTranslated (o : Outside) (from to : List ℕ) : Type 0 where
   pub source : IsSource o from
   pub file : List ℕ
-  pub carries : Carries source.program file
+  pub plans : List BlockPlan
+  pub best : HasBestPlans source.program plans
+  pub carries : Carries source.program (steps_of plans) file
   pub agrees : Agrees source.program file
   pub written : IsTrue o.tells → o.held' to ≡ Some file
   pub others : OthersStand o to
@@ -55,5 +60,6 @@ Ends o from to _ = ⊥
 pub record IsAnswer (bytes : List ℕ) (output : Output) : Type 0 where
   pub program : Program
   pub loads : IsProgramOf PowerPc bytes program
-  pub carries : Carries program output.file
+  pub best : HasBestPlans program output.plans.items
+  pub carries : Carries program (steps_of output.plans.items) output.file
   pub agrees : Agrees program output.file

@@ -11,6 +11,7 @@ use crate::whole::{ReadFault, read_whole};
 use crate::words::Translate;
 use elf_load::{LoadFault, load};
 use outside::{FileFault, Files};
+use rule_audit::Audited;
 use space::Kind;
 use std::alloc::Global;
 use translate_core::Output;
@@ -47,7 +48,7 @@ fn translated(alloc: Global, bytes: &[u8]) -> Result<Output, LoadFault>
     ensures { MatchResult result (IsAnswer bytes.now) (IsCause PowerPc bytes.now) }
 {
     let program = load(alloc, bytes, Kind::PowerPc)?;
-    match translate_core::translate(alloc, &program) {
+    match translate_core::translate(alloc, &program, &Audited::none(alloc)) {
         Ok(output) => Ok(output),
         Err(error) => Err(LoadFault::Memory(error)),
     }

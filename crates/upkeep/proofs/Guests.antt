@@ -1,12 +1,12 @@
 -- The guest stays in range: its next state is represented by a host, behind the word's tile under no registers.
-use Rattle.std.proofs.Common.{◌≡◌, ℕ, zero, suc, ◌+◌, ◌^◌, ◌<◌, ◌≤◌, ◌⊎◌, inl, inr, Bool, true, false, cond, [], Option, Some, None, refl, sym, ap, ◌∙◌, subst, ⊎_elim, arith}
+use Rattle.std.proofs.Common.{◌≡◌, ℕ, zero, suc, ◌+◌, ◌^◌, ◌<◌, ◌≤◌, ◌⊎◌, Bool, true, false, cond, [], Option, Some, None, refl, sym, ap, ◌∙◌, subst, ⊎_elim, arith}
 use Rattle.std.proofs.lemmas.Bool.Decides.{nat_tests}
-use Rattle.machines.specs.Prelude.{Instr, IsLegal, Flags, Outcome, Goes, Asks, Ends, Outside, AnswerValue, Guest, Core, Program, behind, effect_of, guest_acts, guest_executes, is_code_word, word_of_code, code_of, value_at, put_at}
+use Rattle.machines.specs.Prelude.{Instr, IsLegal, Flags, Outcome, Goes, Asks, Ends, Outside, Guest, Core, Program, behind, effect_of, guest_acts, guest_executes, is_code_word, word_of_code, code_of, value_at, put_at}
 use Rattle.reg_map.specs.Prelude.{home_size, location_range, location_place, Represents}
 use Rattle.row_laws.specs.FlowWords.{is_flow}
 use Rattle.base_flow.specs.Prelude.{tile as flow_tile}
 use Rattle.base_flow.proofs.Tiles.{flow_tiles_do_rows}
-use Rattle.symbolic_tiles.specs.Prelude.{perform, Any, IsCore, IsStraight, TilePrecondition, TilePostcondition, window_of, IsBefore, IsBehind, Exit, Leaves, Leaps, Stops, Calls, Falls, FitsGoing, Fits, flow}
+use Rattle.symbolic_tiles.specs.Prelude.{perform, Any, IsCore, IsStraight, TilePrecondition, TilePostcondition, window_of, Exit, Leaves, Leaps, Stops, Calls, Falls, FitsGoing, Fits, flow}
 use Rattle.symbolic_tiles.proofs.Memory.{store_byte}
 use Rattle.symbolic_tiles.proofs.Places.{put_same, put_other, place_apart, place_fits, place_bytes}
 use Rattle.symbolic_tiles.proofs.Done.{range_size}

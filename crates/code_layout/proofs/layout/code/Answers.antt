@@ -2,9 +2,9 @@ use Rattle.std.proofs.Common.{◌≡◌, ◌<◌, ◌≤◌, ◌+◌, ◌*◌, L
 use Rattle.block_find.specs.Prelude.{all_blocks, block_at, word_count}
 use Rattle.block_find.specs.declared.block.Block.{Block}
 use Rattle.symbolic_tiles.specs.declared.flow_op.FlowOp.{FlowOp}
-use Rattle.code_layout.specs.Prelude.{no_moves, Places, places_of, items_length, items_of, code_bytes}
+use Rattle.code_layout.specs.Prelude.{no_moves, Places, places_of, items_length, items_of, code_bytes, laying, steps_of}
 use Rattle.code_layout.proofs.Laid.{laid_more, laid_all}
-use Rattle.code_layout.proofs.Blocks.{nowhere, few_blocks, few_taken, block_is, words_more, items_are}
+use Rattle.code_layout.proofs.Blocks.{nowhere, few_blocks, few_taken, block_is, words_more}
 use Rattle.code_layout.proofs.layout.code.Goals as goal
 
 pub count-block-end-requires : goal.count-block-end-requires
@@ -32,13 +32,12 @@ loop-block-preserved c =
     let end = c.count-block-end.ensures in
     let lt : c.loop-block.block < length all = omega (arith, t, end) in
     let its : List FlowOp = c.deref.result.now in
-    let are : its ≡ items_of s.first s.decoded.now block = items_are s.first c.at.result.now.at s.decoded.now c.words_of.result.now block its (search rules) c.words_of.ensures.words (c.deref.ensures.value ∙ c.in_ok-items.ensures.items) in
+    let are : its ≡ items_of (laying s.first s.decoded.now s.live.now all (steps_of s.plans.now)) block = c.deref.ensures.value ∙ c.in_ok-items.ensures.items in
     let some = (block_is s.first s.entry s.words.now s.blocks.now c.requires.blocks c.each_is_block.ensures c.loop-block.block lt).1.some in
-    let long : items_length no_moves its ≤ 595 * length c.words_of.result.now + 5 = (search rules) in
-    let count : length c.words_of.result.now ≡ word_count block = c.words_of.ensures.count in
+    let long : items_length no_moves its ≤ 631 * word_count block + 5 = (search rules) in
     record {
-      bytes = laid_more s.decoded.now p c.args.layout.now.code (vec_len c.loop-block.code) (vec_len c.put.new.code) c.loop-block.block all nowhere its c.loop-block.code.items c.put.new.code.items (code_bytes s.decoded.now p all) lt (search rules) c.in_ok-put.ensures.bytes c.in_ok-put.ensures.length c.loop-block.invariant.bytes;
-      bound = (let bound = c.loop-block.invariant.bound in let more = words_more c.loop-block.block all lt in let put = c.in_ok-put.ensures.length in omega (arith, bound, more, put, long, count, some));
+      bytes = laid_more (laying s.first s.decoded.now s.live.now all (steps_of s.plans.now)) p c.args.layout.now.code (vec_len c.loop-block.code) (vec_len c.put.new.code) c.loop-block.block all nowhere its c.loop-block.code.items c.put.new.code.items (code_bytes (laying s.first s.decoded.now s.live.now all (steps_of s.plans.now)) p all) lt are c.in_ok-put.ensures.bytes c.in_ok-put.ensures.length c.loop-block.invariant.bytes;
+      bound = (let bound = c.loop-block.invariant.bound in let more = words_more c.loop-block.block all lt in let put = c.in_ok-put.ensures.length in omega (arith, bound, more, put, long, some));
     }
 
 pub returns-clause-bytes : goal.returns-clause-bytes
@@ -48,7 +47,7 @@ returns-clause-bytes c =
     let p : Places = places_of c.args.layout.now in
     let f = c.loop-block-test.false in
     let end = c.count-block-end.ensures in
-    laid_all s.decoded.now p (c.args.layout.now.code + vec_len c.loop-block.code) c.loop-block.block all c.loop-block.code.items (code_bytes s.decoded.now p all) (omega (arith, f, end)) c.loop-block.invariant.bytes
+    laid_all (laying s.first s.decoded.now s.live.now all (steps_of s.plans.now)) p (c.args.layout.now.code + vec_len c.loop-block.code) c.loop-block.block all c.loop-block.code.items (code_bytes (laying s.first s.decoded.now s.live.now all (steps_of s.plans.now)) p all) (omega (arith, f, end)) c.loop-block.invariant.bytes
 
 pub returns-clause-bound : goal.returns-clause-bound
 returns-clause-bound c =

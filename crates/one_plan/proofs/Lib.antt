@@ -1,0 +1,7 @@
+mod Ordered
+mod Alike
+mod Choices
+mod Labels
+mod Problems
+mod Programs
+mod Lists
